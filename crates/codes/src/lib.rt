@@ -1,0 +1,62 @@
+// A code by value, and its layout: which symbols lie on which disk.
+ghost use mathlib.Core.Path.{_≡_};
+ghost use Prim.Native.Nat.{_*_, _≤_, _<_};
+ghost use lib.Dec.{eqb};
+ghost use Rattle.codes.specs.Layouts.{symbolsOf, firstSymbol, heightOf, diskOf};
+use gf2::BitSet;
+
+// The disks of an array and the symbols on each. Symbols are numbered disk after disk.
+pub struct Layout {
+    pub disks: usize,
+    pub height: usize,
+}
+
+// A code, held whole: row s of the generator matrix is rows[s]; rows behind the last symbol are empty.
+pub struct Code {
+    pub layout: Layout,
+    pub data_symbols: usize,
+    pub rows: [BitSet; 64],
+}
+
+impl Layout {
+    // N, the number of symbols in all.
+    pub fn symbols(self) -> usize
+        requires { ⌜ (self .disks ≤ 255) × (self .height ≤ 255) ⌝ }
+        ensures { λ r. ⌜ r ≡ symbolsOf self ⌝ }
+    {
+        self.disks * self.height
+    }
+
+    // The number of the first symbol on a disk.
+    pub fn first_symbol(self, disk: usize) -> usize
+        requires { ⌜ (disk ≤ self .disks) × (self .disks ≤ 255) × (self .height ≤ 255) ⌝ }
+        ensures { λ r. ⌜ r ≡ firstSymbol self disk ⌝ }
+    {
+        disk * self.height
+    }
+
+    // How many symbols a disk has.
+    pub fn height_of(self, disk: usize) -> usize
+        ensures { λ r. ⌜ r ≡ heightOf self disk ⌝ }
+    {
+        self.height
+    }
+
+    // The disk on which a symbol lies.
+    pub fn disk_of(self, symbol: usize) -> usize
+        requires { ⌜ 0 < self .height ⌝ }
+        ensures { λ r. ⌜ r ≡ diskOf self symbol ⌝ }
+    {
+        symbol / self.height
+    }
+}
+
+// Whether so many bytes are exactly `count` symbols of `size` bytes each. No product is formed: each number may be any.
+pub fn is_length(bytes: usize, count: usize, size: usize) -> bool
+    ensures { λ r. ⌜ r ≡ eqb bytes (count * size) ⌝ }
+{
+    if size == 0 {
+        return bytes == 0;
+    }
+    bytes % size == 0 && bytes / size == count
+}

@@ -1,0 +1,3 @@
+pub mod ByteLoopLaws
+pub mod EncodingLaws
+pub mod CallLaws

@@ -1,0 +1,103 @@
+-- `encoding::encode_symbol` meets its contract. The invariant: the target is the sum of the data symbols passed. Assumes nothing.
+use Prim.Native.Nat.{_+_, _-_}
+use mathlib.Core.Path.{_≡_, sym, ap, _∙_}
+use native.Mathlib.Omega.{arith}
+use mathlib.Core.Logic.{⊎-elim}
+use Rattle.encoding.proofs.EncodingLaws.{SummedSoFar, summed-so-far, symbol-ends-within, encodedSymbol-none, encodedSymbol-has, encodedSymbol-lacks}
+use Rattle.gf2.specs.Stripes.{encodedSymbol}
+use Rattle.encoding.proofs.encode_symbol.Statement.{statement}
+use Rattle.encoding.proofs.encode_symbol.Tie as tie
+
+abbrev Inv-loop : tie.InvT-loop
+Inv-loop row data-symbols size contents target₀ t₀ target t = SummedSoFar data-symbols size contents row target t
+
+abbrev μ-loop : tie.MeasureT-loop
+μ-loop row data-symbols size contents target₀ t₀ target t = data-symbols - t
+
+clear-requires : tie.Need-clear-requires Inv-loop μ-loop
+clear-requires c κs = omega arith
+
+loop-holds : tie.Need-loop-holds Inv-loop μ-loop
+loop-holds c =
+    let args = c .before .before .before .before .before .before .args in
+    summed-so-far (args .data-symbols) (args .size) (args .contents .now) (args .row) _ 0 (omega arith) (omega arith)
+    (c .before .before .clear .ensures ∙ encodedSymbol-none (args .size) (args .contents .now) (args .row) (args .target .now) (omega arith))
+
+has-requires : tie.Need-has-requires Inv-loop μ-loop
+has-requires c κs = omega arith
+
+mul-add : tie.Need-mul-add Inv-loop μ-loop
+mul-add c =
+    let args = c .before .before .before .before .before .before .before .before .before .before .before .args in
+    omega (arith, symbol-ends-within (c .before .before .before .before .loop .t) (args .data-symbols) (args .size) (omega arith))
+
+add-add : tie.Need-add-add Inv-loop μ-loop
+add-add c = omega arith
+
+mul-add-2 : tie.Need-mul-add-2 Inv-loop μ-loop
+mul-add-2 c =
+    let args = c .before .before .before .before .before .before .before .before .before .before .before .args in
+    omega (arith, symbol-ends-within (c .before .before .before .before .loop .t) (args .data-symbols) (args .size) (omega arith))
+
+sub-add : tie.Need-sub-add Inv-loop μ-loop
+sub-add c = omega arith
+
+part-add-start : tie.Need-part-add-start Inv-loop μ-loop
+part-add-start c = omega arith
+
+part-add-end : tie.Need-part-add-end Inv-loop μ-loop
+part-add-end c =
+    let args = c .before .before .before .before .before .before .before .before .before .before .before .args in
+    omega (arith, symbol-ends-within (c .before .before .before .before .loop .t) (args .data-symbols) (args .size) (omega arith))
+
+add-requires : tie.Need-add-requires Inv-loop μ-loop
+add-requires c κs = omega arith
+
+add-t : tie.Need-add-t Inv-loop μ-loop
+add-t c = omega arith
+
+loop-less : tie.Need-loop-less Inv-loop μ-loop
+loop-less c = omega arith
+
+loop-again : tie.Need-loop-again Inv-loop μ-loop
+loop-again c =
+    let args = c .before .before .before .before .before .before .before .before .before .before .args in
+    let bytes = args .contents .now in
+    let loop = c .before .before .before .loop in
+    let bit = sym (c .before .has .ensures) in
+    summed-so-far (args .data-symbols) (args .size) bytes (args .row) (c .if1 .target) (loop .t + 1) (omega arith) (omega arith)
+    (⊎-elim
+    (λ w. encodedSymbol-has (args .size) bytes (args .row) (loop .t) (loop .target) (c .if1 .target) (bit ∙ w .0 .taken) (loop .inv .2) (w .6 ∙ w .3 .ensures))
+    (λ w. w .1 ∙ encodedSymbol-lacks (args .size) bytes (args .row) (loop .t) (loop .target) (bit ∙ w .0 .left) (loop .inv .2))
+    (c .if1 .came))
+
+same-length : tie.Need-same-length Inv-loop μ-loop
+same-length c = omega arith
+
+returns : tie.Need-returns Inv-loop μ-loop
+returns c =
+    let args = c .before .before .before .before .before .before .before .before .args in
+    let all : c .before .loop .t ≡ args .data-symbols = omega arith in
+    c .before .loop .inv .2 ∙ ap (encodedSymbol (args .size) (args .contents .now) (args .row)) all
+
+pub encode-symbol-spec : {M : Type 1} → statement M
+encode-symbol-spec =
+    tie.close
+    (tie.spec
+    Inv-loop
+    μ-loop
+    clear-requires
+    loop-holds
+    has-requires
+    mul-add
+    add-add
+    mul-add-2
+    sub-add
+    part-add-start
+    part-add-end
+    add-requires
+    add-t
+    loop-less
+    loop-again
+    same-length
+    returns)

@@ -1,0 +1,15 @@
+pub mod Booleans
+pub mod ListLaws
+pub mod StoreLaws
+pub mod BitSetLaws
+pub mod XorLaws
+pub mod OverlapLaws
+pub mod SetLaws
+pub mod SelectionLaws
+pub mod PlanLaws
+pub mod EliminationLaws
+pub mod SubsetPlanLaws
+pub mod PlanningLaws
+pub mod SymbolLaws
+pub mod Columns
+pub mod StripeLaws

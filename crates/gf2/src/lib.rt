@@ -1,0 +1,70 @@
+// Rows and sets of symbols as sets of bits, and the steps of a plan.
+// Code above uses these functions and never an operator on the bits of a BitSet,
+// so that the width of a set is known here alone.
+ghost use mathlib.Core.Path.{_≡_};
+ghost use Prim.Native.Nat.{_<_};
+ghost use lib.Bits.{bitXor};
+ghost use lib.Dec.{eqb};
+ghost use Rattle.gf2.specs.BitSets.{has, with, count, overlap};
+
+// A row of a code, a set of symbols or a pattern: bit 0 is the lowest.
+pub type BitSet = u64;
+
+// One step of a plan, over symbol numbers (document 01, the plan sheet).
+pub enum Step {
+    Clear { target: usize },
+    Copy { target: usize, source: usize },
+    Add { target: usize, source: usize },
+}
+
+// The sum over the field of two elements.
+pub fn sum(a: BitSet, b: BitSet) -> BitSet
+    ensures { λ r. ⌜ r ≡ bitXor a b ⌝ }
+{
+    a ^ b
+}
+
+// Whether two sets have the same elements.
+pub fn equal(a: BitSet, b: BitSet) -> bool
+    ensures { λ r. ⌜ r ≡ eqb a b ⌝ }
+{
+    a == b
+}
+
+// Whether the set has this element.
+pub fn has(set: BitSet, bit: usize) -> bool
+    requires { ⌜ bit < 64 ⌝ }
+    ensures { λ r. ⌜ r ≡ has set bit ⌝ }
+{
+    (set >> bit) % 2 == 1
+}
+
+// The set with this element besides.
+pub fn with(set: BitSet, bit: usize) -> BitSet
+    requires { ⌜ bit < 64 ⌝ }
+    ensures { λ r. ⌜ r ≡ with set bit ⌝ }
+{
+    set | (1u64 << bit)
+}
+
+// How many elements the set has.
+pub fn count(set: BitSet) -> usize
+    ensures { λ r. ⌜ r ≡ count set ⌝ }
+{
+    let mut ones = 0;
+    let mut bit = 0;
+    while bit < 64 {
+        if has(set, bit) {
+            ones += 1;
+        }
+        bit += 1;
+    }
+    ones
+}
+
+// Whether two sets share an odd number of elements.
+pub fn odd_overlap(a: BitSet, b: BitSet) -> bool
+    ensures { λ r. ⌜ r ≡ eqb (overlap a b) 1 ⌝ }
+{
+    count(a & b) % 2 == 1
+}

@@ -1,0 +1,3 @@
+pub mod ByteLaws
+pub mod SearchLaws
+pub mod ReadingLaws
