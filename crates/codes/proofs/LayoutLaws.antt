@@ -1,6 +1,6 @@
 -- The laws by which callers know the layout: strips follow one another, are apart and cover all symbols. Assumes nothing.
 use mathlib.Core.Path.{_≡_, refl, sym, ap, _∙_, subst}
-use mathlib.Core.Bool.{true, _&&_}
+use mathlib.Core.Bool.{true, false, _&&_}
 use Prim.Native.Nat.{ℕ, zero, _+_, _-_, _*_, _/_, _%_, _≤_, _<_}
 use native.Mathlib.Nat.{div-lt-iff-lt-mul, div-add-mod', mod-lt, mul-le-mul-right}
 use native.Mathlib.Omega.{arith}
@@ -26,6 +26,23 @@ module _ (layout : Layout) where
   pub strip-within : (disk : ℕ) → disk < layout .disks → firstSymbol layout disk + heightOf layout disk ≤ symbolsOf layout
   unfolding firstSymbol heightOf symbolsOf
   strip-within disk h = omega (arith, mul-le-mul-right {m = disk + 1} {n = layout .disks} (layout .height) (omega arith))
+
+  -- The end of a strip is a small number
+  pub strip-end-small : (disk : ℕ) → disk ≤ 255 → layout .height ≤ 255 → firstSymbol layout disk + heightOf layout disk ≤ 65280
+  unfolding firstSymbol heightOf
+  strip-end-small disk d h =
+      omega (arith, mul-le-mul-right {m = disk} {n = 255} (layout .height) d)
+
+  -- At or above the first symbol, the end of the strip decides
+  pub onDisk-above : (disk symbol : ℕ) → firstSymbol layout disk ≤ symbol
+      → onDisk layout disk symbol ≡ ltb symbol (firstSymbol layout disk + heightOf layout disk)
+  unfolding onDisk
+  onDisk-above disk symbol h = rw (le-leb (firstSymbol layout disk) symbol h)
+
+  -- Before the first symbol, none is on the disk
+  pub onDisk-before : (disk symbol : ℕ) → symbol < firstSymbol layout disk → onDisk layout disk symbol ≡ false
+  unfolding onDisk
+  onDisk-before disk symbol h = rw (lt-leb (firstSymbol layout disk) symbol h)
 
   -- A symbol lies on the disk that `diskOf` names, and on no other
   pub on-disk-of : zero < layout .height → (disk symbol : ℕ) → onDisk layout disk symbol ≡ eqb (diskOf layout symbol) disk

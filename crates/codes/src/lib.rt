@@ -2,7 +2,7 @@
 ghost use mathlib.Core.Path.{_≡_};
 ghost use Prim.Native.Nat.{_*_, _≤_, _<_};
 ghost use lib.Dec.{eqb};
-ghost use Rattle.codes.specs.Layouts.{symbolsOf, firstSymbol, heightOf, diskOf};
+ghost use Rattle.codes.specs.Layouts.{symbolsOf, firstSymbol, heightOf, diskOf, onDisk};
 use gf2::BitSet;
 
 // The disks of an array and the symbols on each. Symbols are numbered disk after disk.
@@ -48,6 +48,15 @@ impl Layout {
         ensures { λ r. ⌜ r ≡ diskOf self symbol ⌝ }
     {
         symbol / self.height
+    }
+
+    // Whether a symbol lies on a disk.
+    pub fn on_disk(self, disk: usize, symbol: usize) -> bool
+        requires { ⌜ (disk ≤ self .disks) × (self .disks ≤ 255) × (self .height ≤ 255) ⌝ }
+        ensures { λ r. ⌜ r ≡ onDisk self disk symbol ⌝ }
+    {
+        let first = self.first_symbol(disk);
+        first <= symbol && symbol < first + self.height_of(disk)
     }
 }
 

@@ -1,11 +1,14 @@
 -- Laws of `has` and `with`: membership bit by bit, after adding a bit, above the width, and equality of sets; from the laws of overlap. Assumes nothing.
-use mathlib.Core.Path.{_≡_, refl, sym, ap, _∙_, fun-ext}
+use mathlib.Core.Path.{_≡_, refl, sym, ap, subst, _∙_, fun-ext}
+use mathlib.Core.Logic.{⊎-elim}
 use mathlib.Core.Bool.{Bool, true, false, cond, _||_, or-comm, true≢false, false≢true}
-use Prim.Native.Nat.{ℕ, zero, suc, _/_, _%_, _^_, _≤_, _<_}
-use native.Mathlib.Nat.{div-one, zero-div, div-eq-of-lt, div-div-eq-div-mul, pow-succ', lt-of-lt-of-le}
+use Prim.Native.Nat.{ℕ, zero, suc, _*_, _/_, _%_, _^_, _≤_, _<_}
+use native.Mathlib.Nat.{div-one, zero-div, div-eq-of-lt, div-div-eq-div-mul, pow-succ', lt-of-lt-of-le, div-lt-iff-lt-mul, div-add-mod', mod-lt, eq-or-lt-of-le}
+use native.Mathlib.Omega.{arith}
 use lib.Bits.{bitOr, or-shr, or-mod, or-lt}
 use lib.Dec.{eqb, eqb·zero-suc, eqb·suc-zero, eqb·suc-suc}
-use lib.Pow.{pow-mono, pow-lt}
+use lib.Pow.{pow-mono, pow-lt, pow-pos}
+use borrow.Author.Tests.{eqb-false}
 use Rattle.gf2.specs.BitSets.{has, with, overlap}
 use Rattle.gf2.specs.Selection.{scale}
 use Rattle.gf2.specs.Plans.{extend}
@@ -102,3 +105,25 @@ has-above width set bit h above = ap (λ (x : ℕ). eqb (x % 2) 1) (div-eq-of-lt
 pub with-below : (width set added : ℕ) → set < 2 ^ width → added < width → with set added < 2 ^ width
 unfolding with
 with-below width set added h below = or-lt width set (2 ^ added) h (pow-lt below)
+
+-- A number that lacks its highest bit is of one bit less
+halve-if-lacks : (bit row : ℕ) → row < 2 ^ suc bit → has row bit ≡ false → row < 2 ^ bit
+unfolding has
+halve-if-lacks bit row below lacks =
+    let above : row / 2 ^ bit < 2 = div-lt-iff-lt-mul (pow-pos bit) .1 (subst (λ (n : ℕ). row < n) (pow-succ' 2 bit) below) in
+    let none : row / 2 ^ bit ≡ 0 = omega (arith, eqb-false (row / 2 ^ bit % 2) 1 lacks) in
+    omega (arith, div-add-mod' row (2 ^ bit), mod-lt row (pow-pos bit), ap (λ (q : ℕ). q * 2 ^ bit) none)
+
+-- A number that has no bit from some place on is below that power of two
+pub below-if-no-high-bits : (bits width row : ℕ) → bits ≤ width → row < 2 ^ width
+    → ((bit : ℕ) → bits ≤ bit → bit < width → has row bit ≡ false) → row < 2 ^ bits
+below-if-no-high-bits bits zero row fits below none =
+    let none-left : 0 ≡ bits = omega arith in
+    subst (λ (k : ℕ). row < 2 ^ k) none-left below
+below-if-no-high-bits bits (suc width) row fits below none =
+    ⊎-elim
+    (λ (same : bits ≡ suc width). subst (λ (k : ℕ). row < 2 ^ k) (sym same) below)
+    (λ (less : bits < suc width).
+    below-if-no-high-bits bits width row (omega arith) (halve-if-lacks width row below (none width (omega arith) (omega arith)))
+    (λ bit low high. none bit low (omega arith)))
+    (eq-or-lt-of-le fits)

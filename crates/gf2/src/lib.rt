@@ -3,7 +3,7 @@
 // so that the width of a set is known here alone.
 ghost use mathlib.Core.Path.{_≡_};
 ghost use Prim.Native.Nat.{_<_};
-ghost use lib.Bits.{bitXor};
+ghost use lib.Bits.{bitAnd, bitXor};
 ghost use lib.Dec.{eqb};
 ghost use Rattle.gf2.specs.BitSets.{has, with, count, overlap};
 
@@ -62,9 +62,16 @@ pub fn count(set: BitSet) -> usize
     ones
 }
 
+// The elements that two sets share.
+pub fn common(a: BitSet, b: BitSet) -> BitSet
+    ensures { λ r. ⌜ r ≡ bitAnd a b ⌝ }
+{
+    a & b
+}
+
 // Whether two sets share an odd number of elements.
 pub fn odd_overlap(a: BitSet, b: BitSet) -> bool
     ensures { λ r. ⌜ r ≡ eqb (overlap a b) 1 ⌝ }
 {
-    count(a & b) % 2 == 1
+    count(common(a, b)) % 2 == 1
 }

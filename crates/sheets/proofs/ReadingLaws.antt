@@ -22,7 +22,9 @@ use Rattle.refusals.proofs.OrderLaws.{fine-means-none-holds}
 use Rattle.sheets.specs.CodeSheets.{codeIn, rowIn}
 use Rattle.sheets.specs.CodeReading.{headFaults, strayAt, firstStray, strayFault, codeVerdict, reading}
 use Rattle.sheets.proofs.ByteLaws.{lowFirst-below}
-use Rattle.sheets.proofs.SearchLaws.{none-if-firstFrom-behind, strayAt-high, below-if-no-high-bits}
+use Rattle.gf2.proofs.SearchLaws.{none-if-firstFrom-behind}
+use Rattle.gf2.proofs.SetLaws.{below-if-no-high-bits}
+use Rattle.sheets.proofs.StrayLaws.{strayAt-high}
 use Rattle.sheets.specs.declared.Reading.{Reading}
 
 -- ------------------------------------------------------------------

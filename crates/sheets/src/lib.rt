@@ -21,7 +21,7 @@ pub struct Reading {
 }
 
 // The byte at a place of a sheet, and 0 behind its end: the tests of the head need no sheet of full length.
-fn byte_at(sheet: &[u8], at: usize) -> usize
+pub fn byte_at(sheet: &[u8], at: usize) -> usize
     ensures { λ r. ⌜ (r ≡ getD (now (sheet .entry)) at 0) × (r < 256) ⌝ }
 {
     if at < sheet.len() {

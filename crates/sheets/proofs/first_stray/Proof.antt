@@ -7,7 +7,8 @@ use native.Mathlib.Omega.{arith}
 use borrow.Author.Needs.{needs}
 use borrow.Author.Count.{below-none, below-more}
 use Rattle.sheets.specs.CodeReading.{strayAt}
-use Rattle.sheets.proofs.SearchLaws.{firstFrom-none, firstFrom-found, strayAt-high, skip-low-bits}
+use Rattle.gf2.proofs.SearchLaws.{firstFrom-none, firstFrom-found}
+use Rattle.sheets.proofs.StrayLaws.{strayAt-high, skip-low-bits}
 use Rattle.sheets.proofs.first_stray.Statement.{statement}
 use Rattle.sheets.proofs.first_stray.Tie as tie
 

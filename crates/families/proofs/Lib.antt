@@ -1,0 +1,4 @@
+pub mod FamilyLaws
+pub mod WriteLaws
+pub mod LimitLaws
+pub mod AnswerLaws
