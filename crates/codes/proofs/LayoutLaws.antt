@@ -7,7 +7,8 @@ use native.Mathlib.Omega.{arith}
 use native.Mathlib.Decide.{decLe, decLt}
 use lib.Arith.{digits-div}
 use lib.Dec.{eqb, leb, ltb}
-use borrow.Author.Tests.{le-leb, lt-leb, lt-ltb, le-ltb, eq-eqb, ne-eqb, eqb-true}
+use borrow.Author.Tests.{leb-true, ltb-true, le-leb, lt-leb, lt-ltb, le-ltb, eq-eqb, ne-eqb, eqb-true}
+use Rattle.gf2.proofs.Booleans.{and-left, and-right}
 use Rattle.codes.specs.declared.Layout.{Layout}
 use Rattle.codes.specs.Layouts.{symbolsOf, firstSymbol, heightOf, diskOf, onDisk}
 
@@ -43,6 +44,20 @@ module _ (layout : Layout) where
   pub onDisk-before : (disk symbol : ℕ) → symbol < firstSymbol layout disk → onDisk layout disk symbol ≡ false
   unfolding onDisk
   onDisk-before disk symbol h = rw (lt-leb (firstSymbol layout disk) symbol h)
+
+  -- A disk has a symbol
+  pub height-of-positive : (disk : ℕ) → zero < layout .height → zero < heightOf layout disk
+  unfolding heightOf
+  height-of-positive disk h = h
+
+  -- A symbol on a disk lies between the first symbol of the disk and the end of its strip
+  pub on-disk-between : (disk symbol : ℕ) → onDisk layout disk symbol ≡ true
+      → (firstSymbol layout disk ≤ symbol) × (symbol < firstSymbol layout disk + heightOf layout disk)
+  unfolding onDisk
+  on-disk-between disk symbol on = (
+    leb-true (firstSymbol layout disk) symbol (and-left _ _ on),
+    ltb-true symbol (firstSymbol layout disk + heightOf layout disk) (and-right (leb (firstSymbol layout disk) symbol) _ on),
+  )
 
   -- A symbol lies on the disk that `diskOf` names, and on no other
   pub on-disk-of : zero < layout .height → (disk symbol : ℕ) → onDisk layout disk symbol ≡ eqb (diskOf layout symbol) disk

@@ -10,20 +10,8 @@ use lib.ListN.{length, getD, take, drop, replicate, drop-of-length-le, length-ap
 use lib.Seq.{length-take-le, take-at, drop-at, drop-drop, take-suc}
 use borrow.Rule.Slice.PartMut.{putMid}
 use Rattle.gf2.specs.BitSets.{has}
-use Rattle.gf2.proofs.SymbolLaws.{length-encodedSymbol, length-encoding}
+use Rattle.gf2.proofs.SymbolLaws.{part-length, part-is-symbol, length-encodedSymbol, length-encoding}
 use Rattle.gf2.specs.Stripes.{symbol, xorBytes, encodedSymbol, encoding}
-
--- A symbol below the count ends within them all
-pub symbol-ends-within : (t count size : ℕ) → t < count → (t + 1) * size ≤ count * size
-symbol-ends-within t count size h = mul-le-mul-right size (omega arith)
-
--- The part from t × L to (t + 1) × L has L bytes
-pub part-length : (t size : ℕ) → (t + 1) * size - t * size ≡ size
-part-length t size = omega arith
-
--- Symbol t as the code hands it on
-pub part-is-symbol : (bytes : List ℕ) (t size : ℕ) → take ((t + 1) * size - t * size) (drop (t * size) bytes) ≡ symbol size bytes t
-part-is-symbol bytes t size = ap (λ (n : ℕ). take n (drop (t * size) bytes)) (part-length t size)
 
 -- What holds of the target before each turn: it has L bytes and is the sum of the data symbols passed
 abbrev pub SummedSoFar : ℕ → ℕ → List ℕ → ℕ → List ℕ → ℕ → Type 0

@@ -35,13 +35,25 @@ getD-xorBytes (x ∷ a) (y ∷ b) e (suc i) = getD-xorBytes a b (suc-inj e) i
 -- ------------------------------------------------------------------
 -- Symbols as parts
 
+-- A symbol below the count ends within them all
+pub symbol-ends-within : (t count L : ℕ) → t < count → (t + 1) * L ≤ count * L
+symbol-ends-within t count L h = mul-le-mul-right L (omega arith)
+
 -- Each symbol of n lies within n × L bytes
 pub symbol-fits : (L n : ℕ) (bytes : List ℕ) (s : ℕ) → length bytes ≡ n * L → s < n → (s + 1) * L ≤ length bytes
-symbol-fits L n bytes s e h = rw e (mul-le-mul-right {m = s + 1} {n = n} L (omega arith))
+symbol-fits L n bytes s e h = rw e (symbol-ends-within s n L h)
 
 -- A symbol that lies within the bytes has L bytes
 pub length-symbol : (L : ℕ) (bytes : List ℕ) (s : ℕ) → (s + 1) * L ≤ length bytes → length (symbol L bytes s) ≡ L
 length-symbol L bytes s h = length-take-le L (drop (s * L) bytes) (rw length-drop (omega arith))
+
+-- The part from t × L to (t + 1) × L has L bytes
+pub part-length : (t L : ℕ) → (t + 1) * L - t * L ≡ L
+part-length t L = omega arith
+
+-- Symbol t as the code hands it on
+pub part-is-symbol : (bytes : List ℕ) (t L : ℕ) → take ((t + 1) * L - t * L) (drop (t * L) bytes) ≡ symbol L bytes t
+part-is-symbol bytes t L = ap (λ (n : ℕ). take n (drop (t * L) bytes)) (part-length t L)
 
 -- Byte i of symbol s is byte s × L + i
 pub getD-symbol : (L : ℕ) (bytes : List ℕ) (s i : ℕ) → i < L → getD (symbol L bytes s) i 0 ≡ getD bytes (s * L + i) 0

@@ -3,7 +3,8 @@ use Prim.Native.Nat.{_+_, _-_}
 use mathlib.Core.Path.{_≡_, sym, ap, _∙_}
 use native.Mathlib.Omega.{arith}
 use mathlib.Core.Logic.{⊎-elim}
-use Rattle.encoding.proofs.EncodingLaws.{SummedSoFar, summed-so-far, symbol-ends-within, encodedSymbol-none, encodedSymbol-has, encodedSymbol-lacks}
+use Rattle.gf2.proofs.SymbolLaws.{symbol-ends-within}
+use Rattle.encoding.proofs.EncodingLaws.{SummedSoFar, summed-so-far, encodedSymbol-none, encodedSymbol-has, encodedSymbol-lacks}
 use Rattle.gf2.specs.Stripes.{encodedSymbol}
 use Rattle.encoding.proofs.encode_symbol.Statement.{statement}
 use Rattle.encoding.proofs.encode_symbol.Tie as tie

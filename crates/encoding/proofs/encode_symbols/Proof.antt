@@ -5,7 +5,8 @@ use native.Mathlib.Omega.{arith}
 use lib.ListN.{length}
 use borrow.Kind.Array.{good-length, eInt}
 use mir.Syntax.{w64}
-use Rattle.encoding.proofs.EncodingLaws.{symbol-ends-within, WrittenSoFar, written-so-far, writtenTo, written-none, written-more, written-all}
+use Rattle.gf2.proofs.SymbolLaws.{symbol-ends-within}
+use Rattle.encoding.proofs.EncodingLaws.{WrittenSoFar, written-so-far, writtenTo, written-none, written-more, written-all}
 use Rattle.encoding.proofs.encode_symbols.Statement.{statement}
 use Rattle.encoding.proofs.encode_symbols.Tie as tie
 

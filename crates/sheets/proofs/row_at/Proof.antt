@@ -1,5 +1,4 @@
 -- `sheets::row_at` meets its contract: eight bytes, low byte first. Assumes nothing.
-use native.Mathlib.Omega.{arith}
 use Rattle.sheets.proofs.ByteLaws.{lowFirst-eight}
 use borrow.Author.Needs.{needs}
 use Rattle.sheets.proofs.row_at.Statement.{statement}
@@ -117,7 +116,9 @@ add-result : tie.Need-add-result
 add-result c = search needs
 
 returns : tie.Need-returns
-returns c = omega (arith, lowFirst-eight (c .before .before .before .before .before .before .before .before .before .before .before .before .before .before .before .before .before .args .sheet .now) (c .before .before .before .before .before .before .before .before .before .before .before .before .before .before .before .before .before .args .at) (c .before .before .before .before .before .before .before .before .before .before .before .before .before .before .before .before .before .pre), c .before .before .before .before .before .before .before .before .before .before .before .before .before .before .before .before)
+returns c =
+    let start = c .before .before .before .before .before .before .before .before .before .before .before .before .before .before .before .before .before in
+    cc (lowFirst-eight (start .args .sheet .now) (start .args .at) (start .pre))
 
 pub row-at-spec : {M : Type 1} → statement M
 row-at-spec =

@@ -1,0 +1,351 @@
+// The test vectors: reads records from standard input, makes the library call that each asks for, prints a line for each.
+//
+// A record is two bytes with its length, then one byte for the call, then the call's numbers of 8 bytes, then the rest.
+// All numbers have their low byte first. A long input is not in the record: it is filled from a seed.
+//
+//   call 0, read a code sheet: the sheet
+//   call 1, a family: which, its two parameters, buffer length, buffer seed
+//   call 2, encode: L, data length, data seed, stripe length, stripe seed, sheet length; the sheet, the data's first bytes
+//   call 3, one strip: disk, L, stripe length, stripe seed; the sheet
+//   call 4, look up: disk, L, stripe length, stripe seed, spare length, spare seed, symbol; the sheet
+ghost use mathlib.Core.Path.{_≡_};
+ghost use Prim.Native.Nat.{_≤_, _<_};
+ghost use lib.ListN.{length};
+use codes::Code;
+use families::Family;
+use families::Written;
+use libc::STDIN_FILENO;
+use libc::STDOUT_FILENO;
+use refusals::Refusal;
+use refusals::Verdict;
+
+// The most bytes that a long input has.
+const ROOM: usize = 262144;
+
+// The byte at a place of a record, and 0 behind its end.
+fn byte_at(record: &[u8], at: usize) -> usize
+    ensures { λ r. ⌜ r < 256 ⌝ }
+{
+    if at < record.len() {
+        return record[at] as usize;
+    }
+    0
+}
+
+fn half_number_at(record: &[u8], at: usize) -> usize
+    requires { ⌜ at ≤ 1000 ⌝ }
+    ensures { λ r. ⌜ r < 4294967296 ⌝ }
+{
+    byte_at(record, at)
+        + 256 * byte_at(record, at + 1)
+        + 65536 * byte_at(record, at + 2)
+        + 16777216 * byte_at(record, at + 3)
+}
+
+// The number in the 8 bytes at a place of a record.
+fn number_at(record: &[u8], at: usize) -> usize
+    requires { ⌜ at ≤ 900 ⌝ }
+{
+    half_number_at(record, at) + 4294967296 * half_number_at(record, at + 4)
+}
+
+// A record from a place on.
+fn rest_at(record: &[u8], at: usize) -> &[u8] {
+    if at <= record.len() {
+        return &record[at..];
+    }
+    &record[0..0]
+}
+
+// The first bytes of a part of a record, as many as asked where there are so many.
+fn front_of(part: &[u8], length: usize) -> &[u8] {
+    if length <= part.len() {
+        return &part[0..length];
+    }
+    &part[0..0]
+}
+
+// Fills a buffer from a seed.
+fn fill(buffer: &mut [u8], seed: usize) {
+    let mut state = seed % 2147483648;
+    let mut i = 0;
+    while i < buffer.len() {
+        state = (state * 1103515245 + 12345) % 2147483648;
+        buffer[i] = (state / 65536 % 256) as u8;
+        i += 1;
+    }
+}
+
+// Puts bytes over the front of a buffer, as far as it goes.
+fn put_over(buffer: &mut [u8], bytes: &[u8]) {
+    let mut i = 0;
+    while i < bytes.len() {
+        if i >= buffer.len() {
+            return;
+        }
+        buffer[i] = bytes[i];
+        i += 1;
+    }
+}
+
+// A digest in which every byte and the length count.
+fn digest(bytes: &[u8]) -> usize {
+    let mut sum = 0;
+    let mut i = 0;
+    while i < bytes.len() {
+        sum = (sum * 257 + byte_at(bytes, i) + 1) % 4294967291;
+        i += 1;
+    }
+    sum
+}
+
+fn print(text: &[u8]) {
+    io::write_all(STDOUT_FILENO, text);
+}
+
+fn print_number(number: u64) {
+    print(b" ");
+    io::print_decimal(STDOUT_FILENO, number);
+}
+
+fn print_refusal(refusal: Refusal) {
+    print(b"refused");
+    print_number(refusal.number());
+    print(b" at");
+    print_number(refusal.place() as u64);
+}
+
+fn print_verdict(verdict: Verdict) {
+    match verdict {
+        Verdict::Fine => {
+            print(b"fine");
+        }
+        Verdict::Refused(refusal) => {
+            print_refusal(refusal);
+        }
+    }
+}
+
+// The digest of a whole buffer, as the end of a line.
+fn print_digest(bytes: &[u8]) {
+    print(b" digest");
+    print_number(digest(bytes) as u64);
+    print(b"\n");
+}
+
+// The bytes of a short buffer, in hex.
+fn print_short(bytes: &[u8]) {
+    if bytes.len() > 16 {
+        return;
+    }
+    print(b" bytes");
+    let mut i = 0;
+    while i < bytes.len() {
+        print(b" ");
+        io::print_hex(STDOUT_FILENO, byte_at(bytes, i) as u64, 2);
+        i += 1;
+    }
+}
+
+// What a call showed: how many bytes, and which.
+fn print_part(part: &[u8]) {
+    print(b" part");
+    print_number(part.len() as u64);
+    print_digest(part);
+}
+
+// N of a code within the limits; 64 of any other.
+fn row_count(disks: usize, height: usize) -> usize
+    ensures { λ r. ⌜ r ≤ 64 ⌝ }
+{
+    if disks > 64 {
+        return 64;
+    }
+    if height > 32 {
+        return 64;
+    }
+    let symbols = disks * height;
+    if symbols > 64 {
+        return 64;
+    }
+    symbols
+}
+
+fn print_rows(rows: [u64; 64], count: usize)
+    requires { ⌜ count ≤ 64 ⌝ }
+{
+    print(b" rows");
+    let mut i = 0;
+    while i < count {
+        print_number(rows[i]);
+        i += 1;
+    }
+}
+
+fn print_code(code: Code) {
+    let layout = code.layout;
+    let rows = code.rows;
+    print(b"code");
+    print_number(layout.disks as u64);
+    print_number(layout.height as u64);
+    print_number(code.data_symbols as u64);
+    print_rows(rows, row_count(layout.disks, layout.height));
+}
+
+fn read(record: &[u8]) {
+    let reading = sheets::read_code(rest_at(record, 1));
+    let verdict = reading.verdict;
+    let code = reading.code;
+    match verdict {
+        Verdict::Fine => {
+            print_code(code);
+        }
+        Verdict::Refused(refusal) => {
+            print_refusal(refusal);
+        }
+    }
+    print(b"\n");
+}
+
+fn family_of(which: usize, first: usize, second: usize) -> Family {
+    match which {
+        0 => Family::SingleParity {
+            data_disks: first,
+            rows: second,
+        },
+        1 => Family::Liberation {
+            w: first,
+            data_disks: second,
+        },
+        _ => Family::RowDiagonal { p: first },
+    }
+}
+
+fn write_family(record: &[u8], buffer: &mut [u8]) {
+    let family = family_of(
+        number_at(record, 1),
+        number_at(record, 9),
+        number_at(record, 17),
+    );
+    fill(buffer, number_at(record, 33));
+    let written = families::write_family(family, buffer);
+    match written {
+        Written::Sheet { length } => {
+            print(b"sheet");
+            print_number(length as u64);
+        }
+        Written::Refused(refusal) => {
+            print_refusal(refusal);
+        }
+    }
+    print_digest(buffer);
+}
+
+fn encode(record: &[u8], contents: &mut [u8], stripe: &mut [u8]) {
+    let rest = rest_at(record, 49);
+    let sheet = front_of(rest, number_at(record, 41));
+    fill(contents, number_at(record, 17));
+    put_over(contents, rest_at(rest, sheet.len()));
+    fill(stripe, number_at(record, 33));
+    let verdict = encoding::encode(sheet, number_at(record, 1), contents, stripe);
+    print_verdict(verdict);
+    print_short(stripe);
+    print_digest(stripe);
+}
+
+fn show_strip(record: &[u8], stripe: &mut [u8]) {
+    let disk = number_at(record, 1);
+    let size = number_at(record, 9);
+    let sheet = rest_at(record, 33);
+    fill(stripe, number_at(record, 25));
+    print_verdict(views::strip_verdict(sheet, disk, size, stripe));
+    print_part(views::strip(sheet, disk, size, stripe));
+}
+
+fn look_up(record: &[u8], stripe: &mut [u8], spare: &mut [u8]) {
+    let disk = number_at(record, 1);
+    let size = number_at(record, 9);
+    let symbol = number_at(record, 49);
+    let sheet = rest_at(record, 57);
+    fill(stripe, number_at(record, 25));
+    fill(spare, number_at(record, 41));
+    print_verdict(views::look_up_verdict(sheet, disk, size, stripe, spare, symbol));
+    print_part(views::look_up(sheet, disk, size, stripe, spare, symbol));
+}
+
+// Makes a call on the two long inputs that it is lent, or on the first alone.
+fn call_on(record: &[u8], call: usize, first: &mut [u8], second: &mut [u8]) {
+    match call {
+        1 => write_family(record, first),
+        2 => encode(record, first, second),
+        3 => show_strip(record, first),
+        _ => look_up(record, first, second),
+    }
+}
+
+// The place of one long input.
+fn room() -> [u8; ROOM]
+    ensures { λ r. ⌜ 262144 ≡ length r ⌝ }
+{
+    [0; ROOM]
+}
+
+// Makes a call with long inputs of these lengths; no record asks for more than there is room for.
+fn call_with(record: &[u8], call: usize, length: usize, second_length: usize) {
+    if length > ROOM {
+        return;
+    }
+    if second_length > ROOM {
+        return;
+    }
+    let mut first = room();
+    let mut second = room();
+    call_on(
+        record,
+        call,
+        &mut first[0..length],
+        &mut second[0..second_length],
+    );
+}
+
+fn answer(record: &[u8]) {
+    let call = byte_at(record, 0);
+    match call {
+        0 => read(record),
+        1 => call_with(record, call, number_at(record, 25), 0),
+        2 => call_with(record, call, number_at(record, 9), number_at(record, 25)),
+        3 => call_with(record, call, number_at(record, 17), 0),
+        _ => call_with(record, call, number_at(record, 17), number_at(record, 33)),
+    }
+}
+
+fn read_record(part: &mut [u8]) {
+    let length = io::read_full(STDIN_FILENO, part);
+    answer(&part[..length]);
+}
+
+fn record_in(room: &mut [u8], length: usize) -> bool {
+    if length > room.len() {
+        return false;
+    }
+    read_record(&mut room[0..length]);
+    true
+}
+
+// Answers the next record, or says that there is none.
+fn next_record() -> bool {
+    let mut head = [0u8; 2];
+    let got = io::read_full(STDIN_FILENO, &mut head);
+    if got < 2 {
+        return false;
+    }
+    let mut room = io::buffer();
+    record_in(&mut room, byte_at(&head, 0) + 256 * byte_at(&head, 1))
+}
+
+fn main() {
+    let mut turns = u64::MAX;
+    while turns > 0 && next_record() {
+        turns -= 1;
+    }
+}

@@ -1,0 +1,92 @@
+-- Laws of one strip: what its verdict says, and what it shows of the stripe. Assumes nothing.
+use mathlib.Core.Path.{_≡_, sym, ap, ap₂, _∙_}
+use mathlib.Core.List.{List, []}
+use Prim.Native.Nat.{ℕ, _+_, _-_, _*_, _≤_, _<_}
+use native.Mathlib.Nat.{mul-le-mul-right}
+use native.Mathlib.Omega.{arith}
+use lib.ListN.{length, take, drop}
+use borrow.Rule.Slice.PartAt.{part-count}
+use borrow.Author.Tests.{leb-false, ltb-false, not-false, eqb-true, eqb-false}
+use Rattle.codes.proofs.LayoutLaws.{strip-within, height-of-positive}
+use Rattle.codes.specs.Codes.{WithinLimits}
+use Rattle.codes.specs.Layouts.{symbolsOf, firstSymbol, heightOf}
+use Rattle.refusals.specs.Orders.{andThen, ifFine}
+use Rattle.refusals.specs.declared.Refusal.{Refusal}
+use Rattle.refusals.specs.declared.Verdict.{Verdict}
+use Rattle.refusals.specs.declared.Verdict.the-variants.{Fine, Refused}
+use Rattle.refusals.proofs.OrderLaws.{fine-means-none-holds, refused-is-not-fine}
+use Rattle.sheets.specs.declared.Reading.{Reading}
+use Rattle.views.proofs.ReadLaws.{ReadFrom}
+use Rattle.views.specs.Views.{stripFaults, stripVerdict, stripOf, stripShown}
+
+-- What a fine verdict says: there is a code, the disk is one of its array's, L is within its bounds and the stripe is whole
+pub record StripFits (read : Reading) (disk size stripeBytes : ℕ) : Type 0 where
+  pub limits : WithinLimits (read .code)
+  pub disk-below : disk < read .code .layout .disks
+  pub size-from : 0 < size
+  pub size-to : size ≤ 65536
+  pub stripe-whole : stripeBytes ≡ symbolsOf (read .code .layout) * size
+
+-- Where the verdict is fine, that holds
+pub fine-strip-fits : (sheet : List ℕ) (read : Reading) → ReadFrom sheet read → (disk size stripeBytes : ℕ) {answer : Verdict}
+    → answer ≡ andThen (read .verdict) (stripFaults (read .code .layout) disk size stripeBytes) → answer ≡ Fine
+    → StripFits read disk size stripeBytes
+fine-strip-fits sheet read from disk size stripeBytes tested told =
+    let none = fine-means-none-holds (read .verdict) (stripFaults (read .code .layout) disk size stripeBytes) (sym tested ∙ told) in
+    record {
+      limits = from .1 (none .0);
+      disk-below = leb-false (read .code .layout .disks) disk (none .1 .0);
+      size-from = omega (arith, eqb-false size 0 (none .1 .1 .0));
+      size-to = ltb-false 65536 size (none .1 .1 .1 .0);
+      stripe-whole = eqb-true stripeBytes (symbolsOf (read .code .layout) * size) (not-false _ (none .1 .1 .1 .1 .0));
+    }
+
+-- The strip of a disk ends within the stripe
+pub strip-ends-within : {read : Reading} {disk size stripeBytes first height : ℕ} → StripFits read disk size stripeBytes
+    → first ≡ firstSymbol (read .code .layout) disk → height ≡ heightOf (read .code .layout) disk
+    → first * size + height * size ≤ stripeBytes
+strip-ends-within {read} {disk} {size} {stripeBytes} {first} {height} fits e f =
+    let within : first + height ≤ symbolsOf (read .code .layout) = omega (arith, strip-within (read .code .layout) disk (fits .disk-below)) in
+    omega (arith, mul-le-mul-right {m = first + height} size within)
+
+module _ (sheet stripe : List ℕ) (disk size : ℕ) (read : Reading) (from : ReadFrom sheet read) where
+  -- The verdict is the definition's
+  pub strip-verdict-is : {answer : Verdict} → answer ≡ andThen (read .verdict) (stripFaults (read .code .layout) disk size (length stripe))
+      → answer ≡ stripVerdict sheet disk size (length stripe)
+  unfolding stripVerdict
+  strip-verdict-is e =
+      e ∙ ap (λ (r : Reading). andThen (r .verdict) (stripFaults (r .code .layout) disk size (length stripe))) (from .0)
+
+  module _ (answer : Verdict) (tested : answer ≡ andThen (read .verdict) (stripFaults (read .code .layout) disk size (length stripe))) where
+    -- What is shown, by the verdict
+    shown-by-verdict : {told : Verdict} → answer ≡ told
+        → ifFine told (stripOf (read .code .layout) disk size stripe) [] ≡ stripShown sheet disk size stripe
+    unfolding stripShown
+    shown-by-verdict told =
+        ap₂ (λ (v : Verdict) (r : Reading). ifFine v (stripOf (r .code .layout) disk size stripe) [])
+        (sym told ∙ strip-verdict-is tested) (from .0)
+
+    -- Refused: the empty part
+    pub strip-refused : {refusal : Refusal} → answer ≡ Refused refusal
+        → ([] ≡ stripShown sheet disk size stripe) × (stripVerdict sheet disk size (length stripe) ≡ Fine → 0 < 0)
+    strip-refused told =
+        (shown-by-verdict told, λ fine. absurd (refused-is-not-fine (sym told ∙ strip-verdict-is tested ∙ fine)))
+
+    -- Fine: the disk's symbols from its first on, and there are some
+    pub strip-shown : {first height : ℕ} → first ≡ firstSymbol (read .code .layout) disk → height ≡ heightOf (read .code .layout) disk
+        → answer ≡ Fine
+        → (take (first * size + height * size - first * size) (drop (first * size) stripe) ≡ stripShown sheet disk size stripe)
+        × (stripVerdict sheet disk size (length stripe) ≡ Fine
+        → 0 < length (take (first * size + height * size - first * size) (drop (first * size) stripe)))
+    strip-shown {first} {height} e f told =
+        let fits = fine-strip-fits sheet read from disk size (length stripe) tested told in
+        let whole : first * size + height * size - first * size ≡ height * size = omega arith in (
+          ap (λ (n : ℕ). take n (drop (first * size) stripe)) whole
+              ∙ ap₂ (λ (a b : ℕ). take (b * size) (drop (a * size) stripe)) e f
+              ∙ shown-by-verdict told,
+          λ fine.
+              let ends = strip-ends-within fits e f in
+              let some : 1 ≤ height = omega (arith, height-of-positive (read .code .layout) disk (fits .limits .height-from)) in
+              omega
+              (arith, part-count stripe (first * size) (first * size + height * size) (omega arith, ends), mul-le-mul-right {m = 1} size some),
+        )

@@ -1,0 +1,45 @@
+-- `views::strip_test` meets its contract: the chain of tests is the list of faults. Assumes nothing.
+use borrow.Author.Needs.{needs}
+use Rattle.views.proofs.strip_test.Statement.{statement}
+use Rattle.views.proofs.strip_test.Tie as tie
+
+symbols-requires : tie.Need-symbols-requires
+symbols-requires c κs = search needs
+
+or-if-requires : tie.Need-or-if-requires
+or-if-requires c κs = search needs
+
+or-if-requires-2 : tie.Need-or-if-requires-2
+or-if-requires-2 c κs = search needs
+
+or-if-requires-3 : tie.Need-or-if-requires-3
+or-if-requires-3 c κs = search needs
+
+is-length-requires : tie.Need-is-length-requires
+is-length-requires c κs = search needs
+
+or-if-requires-4 : tie.Need-or-if-requires-4
+or-if-requires-4 c κs = search needs
+
+returns : tie.Need-returns
+returns c =
+    rw (
+      c .or-if4 .ensures,
+      c .before .is-length .ensures,
+      c .before .before .or-if3 .ensures,
+      c .before .before .before .or-if2 .ensures,
+      c .before .before .before .before .or-if .ensures,
+      c .before .before .before .before .before .before .symbols .ensures,
+    )
+
+pub strip-test-spec : {M : Type 1} → statement M
+strip-test-spec =
+    tie.close
+    (tie.spec
+    symbols-requires
+    or-if-requires
+    or-if-requires-2
+    or-if-requires-3
+    is-length-requires
+    or-if-requires-4
+    returns)

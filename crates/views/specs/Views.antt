@@ -1,0 +1,70 @@
+-- One strip and look up (document 01, "What each call leaves"): parts of the caller's slices, and the verdicts of the twin calls.
+use mathlib.Core.Bool.{cond}
+use mathlib.Core.List.{List, [], _∷_, _++_}
+use Prim.Native.Nat.{ℕ, _-_, _*_}
+use lib.Dec.{leb}
+use lib.ListN.{length, take, drop}
+use Rattle.codes.specs.Layouts.{symbolsOf, firstSymbol, heightOf, onDisk}
+use Rattle.codes.specs.Lengths.{symbolLengthFaults, lengthFault}
+use Rattle.codes.specs.declared.Layout.{Layout}
+use Rattle.gf2.specs.Stripes.{symbol}
+use Rattle.refusals.specs.Orders.{Fault, _gets_, andThen, ifFine}
+use Rattle.refusals.specs.declared.Refusal.the-variants.{NoSuchDisk, StripeLength, SpareStripLength, NoSuchSymbol}
+use Rattle.refusals.specs.declared.Verdict.{Verdict}
+use Rattle.sheets.specs.CodeReading.{reading}
+
+-- The layout of a code sheet that is not refused
+abbrev pub layoutOf : List ℕ → Layout
+layoutOf sheet = reading sheet .code .layout
+
+-- ------------------------------------------------------------------
+-- One strip
+
+-- 7, 31, 32
+abbrev pub stripFaults : Layout → ℕ → ℕ → ℕ → List Fault
+stripFaults layout disk size stripeBytes =
+    (leb (layout .disks) disk gets NoSuchDisk)
+    ∷ symbolLengthFaults size
+    ++ lengthFault stripeBytes (symbolsOf layout) size StripeLength
+    ∷ []
+
+-- Refusals in the order code sheet, 7, 31, 32
+unfoldable pub stripVerdict : List ℕ → ℕ → ℕ → ℕ → Verdict
+stripVerdict sheet disk size stripeBytes = andThen (reading sheet .verdict) (stripFaults (layoutOf sheet) disk size stripeBytes)
+
+-- The strip of a disk as a part of the stripe: it begins at the disk's first symbol
+abbrev pub stripOf : Layout → ℕ → ℕ → List ℕ → List ℕ
+stripOf layout disk size stripe = take (heightOf layout disk * size) (drop (firstSymbol layout disk * size) stripe)
+
+-- The answer: that strip, and the empty part on a refusal
+unfoldable pub stripShown : List ℕ → ℕ → ℕ → List ℕ → List ℕ
+stripShown sheet disk size stripe =
+    ifFine (stripVerdict sheet disk size (length stripe)) (stripOf (layoutOf sheet) disk size stripe) []
+
+-- ------------------------------------------------------------------
+-- Look up
+
+-- 7, 31, 32, 35, 38
+abbrev pub lookUpFaults : Layout → ℕ → ℕ → ℕ → ℕ → ℕ → List Fault
+lookUpFaults layout disk size stripeBytes spareBytes wanted =
+    stripFaults layout disk size stripeBytes
+    ++ lengthFault spareBytes (heightOf layout disk) size SpareStripLength
+    ∷ (leb (symbolsOf layout) wanted gets NoSuchSymbol)
+    ∷ []
+
+-- Refusals in the order code sheet, 7, 31, 32, 35, 38
+unfoldable pub lookUpVerdict : List ℕ → ℕ → ℕ → ℕ → ℕ → ℕ → Verdict
+lookUpVerdict sheet disk size stripeBytes spareBytes wanted =
+    andThen (reading sheet .verdict) (lookUpFaults (layoutOf sheet) disk size stripeBytes spareBytes wanted)
+
+-- A symbol that survives is shown from the stripe, a lost one from the spare strip
+abbrev pub symbolOf : Layout → ℕ → ℕ → List ℕ → List ℕ → ℕ → List ℕ
+symbolOf layout disk size stripe spare wanted =
+    cond (onDisk layout disk wanted) (symbol size spare (wanted - firstSymbol layout disk)) (symbol size stripe wanted)
+
+-- The answer: that symbol, and the empty part on a refusal
+unfoldable pub symbolShown : List ℕ → ℕ → ℕ → List ℕ → List ℕ → ℕ → List ℕ
+symbolShown sheet disk size stripe spare wanted =
+    ifFine (lookUpVerdict sheet disk size (length stripe) (length spare) wanted)
+    (symbolOf (layoutOf sheet) disk size stripe spare wanted)
+    []

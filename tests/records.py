@@ -1,0 +1,101 @@
+"""The records that the program crates/vectors reads, and the line that it must print for each.
+
+crates/vectors/src/main.rt describes the records. What a call answers comes from the second program.
+"""
+from collections import Counter
+from functools import lru_cache
+from typing import Union
+
+import second
+from second import Refusal
+
+ROOM = 262144
+"""The most bytes that a long input of a record has."""
+
+
+@lru_cache(maxsize=16)
+def filled(length: int, seed: int) -> bytes:
+    """A buffer filled from a seed."""
+    state = seed % 2**31
+    content = bytearray(length)
+    for i in range(length):
+        state = (state * 1103515245 + 12345) % 2**31
+        content[i] = state // 65536 % 256
+    return bytes(content)
+
+
+def digest(content: bytes) -> int:
+    total = 0
+    for byte in content:
+        total = (total * 257 + byte + 1) % 4294967291
+    return total
+
+
+def refused(refusal: Refusal) -> str:
+    return f"refused {refusal.number} at {refusal.place}"
+
+
+class Vectors:
+    """The records and the line that each must print, with the number of records of each kind."""
+
+    def __init__(self) -> None:
+        self.records: list[bytes] = []
+        self.lines: list[str] = []
+        self.kinds: Counter[str] = Counter()
+
+    def seed(self) -> int:
+        """A seed for the next record's buffers."""
+        return 7919 * (len(self.records) + 1)
+
+    def add(self, kind: str, call: int, numbers: list[int], rest: bytes, line: str) -> None:
+        body = bytes([call]) + b"".join(number.to_bytes(8, "little") for number in numbers) + rest
+        self.records.append(len(body).to_bytes(2, "little") + body)
+        self.lines.append(line)
+        self.kinds[kind] += 1
+
+    def read(self, kind: str, sheet: bytes) -> None:
+        code = second.read_code(sheet)
+        if isinstance(code, Refusal):
+            line = refused(code)
+        else:
+            rows = " ".join(str(row) for row in code.rows)
+            line = f"code {code.disks} {code.height} {code.data_symbols} rows {rows}"
+        self.add(kind, 0, [], sheet, line)
+
+    def family(self, kind: str, which: int, first: int, other: int, length: int) -> None:
+        seed = self.seed()
+        answer, after = second.write_family(which, first, other, filled(length, seed))
+        words = refused(answer) if isinstance(answer, Refusal) else f"sheet {answer}"
+        self.add(kind, 1, [which, first, other, length, seed], b"", f"{words} digest {digest(after)}")
+
+    def encode(self, kind: str, sheet: bytes, size: int, lengths: tuple[int, int], given: bytes = b"") -> None:
+        """Lengths are those of the data and the stripe; the given bytes take the place of the data's first."""
+        length, stripe_length = lengths
+        seed = self.seed()
+        data = given + filled(length, seed)[len(given) :]
+        refusal, after = second.encode(sheet, size, data, filled(stripe_length, seed + 1))
+        line = refused(refusal) if refusal else "fine"
+        if stripe_length <= 16:
+            line += "".join([" bytes"] + [f" {byte:02x}" for byte in after])
+        numbers = [size, length, seed, stripe_length, seed + 1, len(sheet)]
+        self.add(kind, 2, numbers, sheet + given, f"{line} digest {digest(after)}")
+
+    def strip(self, kind: str, sheet: bytes, disk: int, size: int, length: int) -> None:
+        seed = self.seed()
+        answer = second.strip(sheet, disk, size, filled(length, seed))
+        self.add(kind, 3, [disk, size, length, seed], sheet, shown(answer))
+
+    def look_up(self, kind: str, sheet: bytes, disk: int, size: int, lengths: tuple[int, int], symbol: int) -> None:
+        """Lengths are those of the stripe and the spare strip."""
+        length, spare_length = lengths
+        seed = self.seed()
+        answer = second.look_up(sheet, disk, size, filled(length, seed), filled(spare_length, seed + 1), symbol)
+        numbers = [disk, size, length, seed, spare_length, seed + 1, symbol]
+        self.add(kind, 4, numbers, sheet, shown(answer))
+
+
+def shown(answer: Union[bytes, Refusal]) -> str:
+    """The verdict, then the part, which is empty exactly on a refusal."""
+    if isinstance(answer, Refusal):
+        return f"{refused(answer)} part 0 digest 0"
+    return f"fine part {len(answer)} digest {digest(answer)}"
