@@ -1,11 +1,11 @@
 -- Laws of `has` and `with`: membership bit by bit, after adding a bit, above the width, and equality of sets; from the laws of overlap. Assumes nothing.
 use mathlib.Core.Path.{_≡_, refl, sym, ap, subst, _∙_, fun-ext}
 use mathlib.Core.Logic.{⊎-elim}
-use mathlib.Core.Bool.{Bool, true, false, cond, _||_, or-comm, true≢false, false≢true}
+use mathlib.Core.Bool.{Bool, true, false, cond, _&&_, _||_, or-comm, true≢false, false≢true}
 use Prim.Native.Nat.{ℕ, zero, suc, _*_, _/_, _%_, _^_, _≤_, _<_}
 use native.Mathlib.Nat.{div-one, zero-div, div-eq-of-lt, div-div-eq-div-mul, pow-succ', lt-of-lt-of-le, div-lt-iff-lt-mul, div-add-mod', mod-lt, eq-or-lt-of-le}
 use native.Mathlib.Omega.{arith}
-use lib.Bits.{bitOr, or-shr, or-mod, or-lt}
+use lib.Bits.{bitAnd, bitOr, and-shr, and-mod, or-shr, or-mod, or-lt}
 use lib.Dec.{eqb, eqb·zero-suc, eqb·suc-zero, eqb·suc-suc}
 use lib.Pow.{pow-mono, pow-lt, pow-pos}
 use borrow.Author.Tests.{eqb-false}
@@ -72,6 +72,16 @@ has-union a b bit =
     ∙ ap (λ (x : ℕ). eqb x 1) (or-mod (a / 2 ^ bit) (b / 2 ^ bit) 1)
     ∙ low-bit-cases (λ x. eqb (bitOr x (b / 2 ^ bit % 2)) 1 ≡ (eqb x 1 || eqb (b / 2 ^ bit % 2) 1)) refl
     (low-bit-cases (λ y. eqb (bitOr 1 y) 1 ≡ true) refl refl (b / 2 ^ bit)) (a / 2 ^ bit)
+
+-- What two sets share has what both have
+pub has-common : (a b bit : ℕ) → has (bitAnd a b) bit ≡ (has a bit && has b bit)
+unfolding has
+has-common a b bit =
+    ap (λ (x : ℕ). eqb (x % 2) 1) (and-shr a b bit)
+    ∙ ap (λ (x : ℕ). eqb x 1) (and-mod (a / 2 ^ bit) (b / 2 ^ bit) 1)
+    ∙ low-bit-cases (λ x. eqb (bitAnd x (b / 2 ^ bit % 2)) 1 ≡ (eqb x 1 && eqb (b / 2 ^ bit % 2) 1))
+    (low-bit-cases (λ y. eqb (bitAnd 0 y) 1 ≡ false) refl refl (b / 2 ^ bit))
+    (low-bit-cases (λ y. eqb (bitAnd 1 y) 1 ≡ eqb y 1) refl refl (b / 2 ^ bit)) (a / 2 ^ bit)
 
 -- A unit has its own bit alone
 pub has-unit : (own bit : ℕ) → has (2 ^ own) bit ≡ eqb bit own

@@ -26,6 +26,21 @@ abbrev pub NoneHolds : List Fault → Type 0
 NoneHolds [] = Unit {0}
 NoneHolds (fault ∷ faults) = (fault .holds ≡ false) × NoneHolds faults
 
+-- Where no test of two orders holds, none of the joined order does
+pub none-holds-join : (first second : List Fault) → NoneHolds first → NoneHolds second → NoneHolds (first ++ second)
+none-holds-join [] second none behind = behind
+none-holds-join (fault ∷ first) second none behind = (none .0, none-holds-join first second (none .1) behind)
+
+-- Where no test of a joined order holds, none of the first does
+pub none-holds-first : (first second : List Fault) → NoneHolds (first ++ second) → NoneHolds first
+none-holds-first [] second none = tt
+none-holds-first (fault ∷ first) second none = (none .0, none-holds-first first second (none .1))
+
+-- and none of the second
+pub none-holds-second : (first second : List Fault) → NoneHolds (first ++ second) → NoneHolds second
+none-holds-second [] second none = none
+none-holds-second (fault ∷ first) second none = none-holds-second first second (none .1)
+
 -- A verdict and a refusal are never equal
 pub refused-is-not-fine : {refusal : Refusal} → Refused refusal ≡ Fine → ⊥
 refused-is-not-fine e = let differ : _≡_ {A = ℕ} 0 1 = cc in omega arith

@@ -1,0 +1,124 @@
+-- The worked cases that document 01 marks P, gathered in a single table under one claim, `AllRight table`.
+use mathlib.Core.Path.{_≡_}
+use mathlib.Core.Bool.{true}
+use mathlib.Core.List.{List, [], _∷_}
+use Prim.Native.Nat.{ℕ, suc, _<_, _^_}
+use lib.ListN.{getD, length, replicate}
+use Rattle.checker.specs.Check.{checked}
+use Rattle.checker.specs.Judgement.{lost, survives, planVerdict}
+use Rattle.checker.specs.Plans.{Plan}
+use Rattle.checker.specs.declared.Checked.{Checked}
+use Rattle.codes.specs.Codes.{matrix}
+use Rattle.codes.specs.declared.Code.{Code}
+use Rattle.encoding.specs.Encoding.{encodedStripe}
+use Rattle.families.specs.Families.{familyCode}
+use Rattle.families.specs.declared.Family.{Family}
+use Rattle.families.specs.declared.Family.the-variants.{Liberation, RowDiagonal}
+use Rattle.gf2.specs.BitSets.{with}
+use Rattle.gf2.specs.Stripes.{symbol, patternStripe}
+use Rattle.refusals.specs.declared.Refusal.the-variants.{TargetNotLost, UnfilledPlaceUsed, NeverFilled, EndsWrong, WrongReadCount}
+use Rattle.refusals.specs.declared.Verdict.the-variants.{Fine}
+use Rattle.sheets.specs.CodeReading.{reading}
+use Rattle.sheets.specs.CodeSheets.{rowBytes}
+use Rattle.checker.specs.declared.Checked.the-variants as Answers
+
+-- ------------------------------------------------------------------
+-- Sheets
+
+-- A code sheet by its head and rows
+abbrev pub sheet : ℕ → ℕ → ℕ → ℕ → List ℕ → List ℕ
+sheet n r k count rows = 4 ∷ 1 ∷ n ∷ r ∷ k ∷ count ∷ rowBytes rows
+
+-- The square code: n 4, r 2, K 4, rows 1, 2, 4, 8, 5, 10, 9, 6
+unfoldable pub square : List ℕ
+square = sheet 4 2 4 8 (1 ∷ 2 ∷ 4 ∷ 8 ∷ 5 ∷ 10 ∷ 9 ∷ 6 ∷ [])
+
+-- The plan of P2, but for its read count, the first step's kind and target, and the last source
+abbrev pub squarePlan : ℕ → ℕ → ℕ → ℕ → List ℕ
+squarePlan reads kind first last =
+    6 ∷ 1 ∷ 4 ∷ 2 ∷ 4 ∷ 0 ∷ reads ∷ 4 ∷ 0 ∷ kind ∷ first ∷ 2 ∷ 2 ∷ 0 ∷ 4 ∷ 1 ∷ 1 ∷ 2 ∷ 2 ∷ 1 ∷ last ∷ []
+
+-- A row by its bits
+abbrev pub withBits : List ℕ → ℕ
+withBits [] = 0
+withBits (bit ∷ bits) = with (withBits bits) bit
+
+-- ------------------------------------------------------------------
+-- Claims
+
+pub data Case : Type 0 where
+  -- Encoding the data under a code sheet gives the stripe, whatever it held before
+  encodes : List ℕ → ℕ → List ℕ → List ℕ → Case
+  -- Checking a plan sheet for a code sheet and a disk answers so
+  answers : List ℕ → ℕ → List ℕ → Checked → Case
+  -- A family's rows, from a symbol on
+  rows-from : Family → ℕ → List ℕ → Case
+  -- The disk of a code sheet can't be rebuilt: no plan of any length would be accepted, and the pattern is a good one
+  pattern-of : List ℕ → ℕ → ℕ → Case
+
+-- A good pattern: for every symbol length its stripe is zero on every surviving symbol and not zero on the lost disk
+pub record GoodPattern (code : Code) (disk pattern : ℕ) : Type 0 where
+  pub bits : pattern < 2 ^ code .data_symbols
+  pub zero-on-survivors : (L s : ℕ) → survives (code .layout) disk s ≡ true
+      → symbol L (patternStripe L (code .data_symbols) (matrix code) pattern) s ≡ replicate L 0
+  pub shown-at : ℕ
+  pub shown-lost : lost (code .layout) disk shown-at ≡ true
+  pub not-zero : (L : ℕ) → symbol L (patternStripe L (code .data_symbols) (matrix code) pattern) shown-at ≡ replicate L 1
+
+-- A disk can't be rebuilt: no plan of any length would be accepted, and the pattern is a good one
+abbrev pub CannotBeRebuilt : Code → ℕ → ℕ → Type 0
+CannotBeRebuilt code disk pattern = ((plan : Plan) → planVerdict code disk plan ≡ Fine → ⊥) × GoodPattern code disk pattern
+
+-- The entries of a list from an index on, as many as there are on the right
+abbrev pub From : List ℕ → ℕ → List ℕ → Type 0
+From rows at [] = Unit {0}
+From rows at (row ∷ more) = (getD rows at 0 ≡ row) × From rows (suc at) more
+
+abbrev pub Right : Case → Type 0
+Right (encodes codeSheet L contents stripe) =
+    (before : List ℕ) → length before ≡ length stripe → encodedStripe codeSheet L contents before ≡ stripe
+Right (answers codeSheet disk planSheet answer) = checked codeSheet disk planSheet ≡ answer
+Right (rows-from family at rows) = From (familyCode family .rows) at rows
+Right (pattern-of codeSheet disk pattern) = CannotBeRebuilt (reading codeSheet .code) disk pattern
+
+abbrev pub AllRight : List Case → Type 0
+AllRight [] = Unit {0}
+AllRight (case ∷ cases) = Right case × AllRight cases
+
+-- ------------------------------------------------------------------
+-- The table
+
+-- P8: n 2, r 1, K 2, rows 1, 2
+unfoldable pub apart : List ℕ
+apart = sheet 2 1 2 2 (1 ∷ 2 ∷ [])
+
+-- P9: n 2, r 1, K 1, rows 0, 1
+unfoldable pub emptyRow : List ℕ
+emptyRow = sheet 2 1 1 2 (0 ∷ 1 ∷ [])
+
+unfoldable pub table : List Case
+table =
+    -- P1
+    encodes square 1 (0x11 ∷ 0x22 ∷ 0x44 ∷ 0x88 ∷ []) (0x11 ∷ 0x22 ∷ 0x44 ∷ 0x88 ∷ 0x55 ∷ 0xAA ∷ 0x99 ∷ 0x66 ∷ [])
+    -- P2: accepted, 3 reads
+    ∷ answers square 0 (squarePlan 3 1 0 7) (Answers.Accepted 3)
+    -- P3: count 4
+    ∷ answers square 0 (squarePlan 4 1 0 7) (Answers.Refused (WrongReadCount 3))
+    -- P4: last source 06
+    ∷ answers square 0 (squarePlan 3 1 0 6) (Answers.Refused (EndsWrong 1))
+    -- P5: first kind 2
+    ∷ answers square 0 (squarePlan 3 2 0 7) (Answers.Refused (UnfilledPlaceUsed 0))
+    -- P6: first target 02
+    ∷ answers square 0 (squarePlan 3 1 2 7) (Answers.Refused (TargetNotLost 0))
+    -- P7: no steps
+    ∷ answers square 0 (6 ∷ 1 ∷ 4 ∷ 2 ∷ 4 ∷ 0 ∷ 3 ∷ 0 ∷ 0 ∷ []) (Answers.Refused (NeverFilled 0))
+    -- P8
+    ∷ pattern-of apart 0 1
+    -- P9: one clear, 0 reads
+    ∷ answers emptyRow 0 (6 ∷ 1 ∷ 2 ∷ 1 ∷ 1 ∷ 0 ∷ 0 ∷ 1 ∷ 0 ∷ 0 ∷ 0 ∷ 0 ∷ []) (Answers.Accepted 0)
+    -- P10
+    ∷ rows-from (RowDiagonal 3) 0 (1 ∷ 2 ∷ 4 ∷ 8 ∷ 5 ∷ 10 ∷ 1 ∷ 6 ∷ [])
+    -- P11: row 31 has bits 1, 7, 13, 18, 19, 20; row 34 has bits 4, 5, 10, 11, 17, 23
+    ∷ rows-from (Liberation 5 5) 31 (withBits (1 ∷ 7 ∷ 13 ∷ 18 ∷ 19 ∷ 20 ∷ []) ∷ [])
+    ∷ rows-from (Liberation 5 5) 34 (withBits (4 ∷ 5 ∷ 10 ∷ 11 ∷ 17 ∷ 23 ∷ []) ∷ [])
+    ∷ []
