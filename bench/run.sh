@@ -1,6 +1,6 @@
 #!/bin/sh
-# Encoding against a simple Rust encoder, interleaved in one process: sh bench/run.sh
-# The library is built in a copy of the crates with one crate more, which exports the call to C.
+# Encoding and checking against simple Rust, interleaved in one process: sh bench/run.sh
+# The library is built in a copy of the crates with one crate more, which exports the calls to C.
 set -eu
 cd "$(dirname "$0")/.."
 room=$(mktemp -d)
@@ -8,6 +8,7 @@ trap 'rm -rf "$room"' EXIT
 cp -R crates crates.txt "$room/"
 mkdir -p "$room/crates/exports/src"
 cat >"$room/crates/exports/src/lib.rt" <<'RATTLE'
+use checker::Checked;
 use refusals::Verdict;
 
 #[no_mangle]
@@ -18,8 +19,17 @@ pub extern "C" fn navorzim_encode(sheet: &[u8], size: usize, contents: &[u8], st
         Verdict::Refused(refusal) => refusal.number(),
     }
 }
+
+#[no_mangle]
+pub extern "C" fn navorzim_check(sheet: &[u8], disk: usize, plan: &[u8]) -> u64 {
+    let checked = checker::check(sheet, disk, plan);
+    match checked {
+        Checked::Accepted { reads } => 1000 + (reads % 256) as u64,
+        Checked::Refused(refusal) => refusal.number(),
+    }
+}
 RATTLE
-echo "exports: refusals encoding" >>"$room/crates.txt"
+echo "exports: refusals encoding checker" >>"$room/crates.txt"
 (cd "$room" && rt staticlib exports >"$room/log" 2>&1) || { cat "$room/log"; exit 1; }
-rustc --edition 2021 -O bench/encode.rs -L "$room/target/staticlib" -l static=exports -o "$room/encode"
-"$room/encode"
+rustc --edition 2021 -O bench/bench.rs -L "$room/target/staticlib" -l static=exports -o "$room/bench"
+"$room/bench"

@@ -34,6 +34,7 @@ pub record SheetFits (read : Verdict) (layout : Layout) (dataSymbols disk : ℕ)
   pub steps-fit : stepCount sheet ≤ 1024
   pub length-fits : length sheet ≡ planLength (stepCount sheet)
 
+-- A fine verdict says all of that
 pub fits-if-fine : (read : Verdict) (layout : Layout) (dataSymbols disk : ℕ) (sheet : List ℕ)
     → andThen read (sheetFaults layout dataSymbols disk sheet) ≡ Verdicts.Fine → SheetFits read layout dataSymbols disk sheet
 fits-if-fine read layout dataSymbols disk sheet e =

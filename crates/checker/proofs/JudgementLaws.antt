@@ -185,6 +185,10 @@ module _ (layout : Layout) (disk : ℕ) (disk-below : disk < layout .disks) wher
 -- ------------------------------------------------------------------
 -- The judgement
 
+-- gf2's acceptance of steps, for the matrix of a code and the loss of a disk
+abbrev pub AcceptedFor : Code → ℕ → List Step → Type 0
+AcceptedFor code disk steps = Accepted (matrix code) (lost (code .layout) disk) (survives (code .layout) disk) (lost (code .layout) disk) steps
+
 module _ (code : Code) (within : WithinLimits code) (disk : ℕ) (disk-below : disk < code .layout .disks) where
   -- The matrix has a row for each symbol
   pub length-matrix : length (matrix code) ≡ symbols code
@@ -236,7 +240,7 @@ module _ (code : Code) (within : WithinLimits code) (disk : ℕ) (disk-below : d
     -- What a fine verdict behind the head says
     record BodyFine : Type 0 where
       each-formed : EachFormed (symbols code) (plan .steps)
-      accepted : Accepted (matrix code) (lost (code .layout) disk) (survives (code .layout) disk) (lost (code .layout) disk) (stepsOf plan)
+      accepted : AcceptedFor code disk (stepsOf plan)
       true-count : plan .read-count ≡ trueReadCount (code .layout) disk (stepsOf plan)
 
     -- A fine verdict behind the head says all of that
@@ -266,10 +270,25 @@ module _ (code : Code) (within : WithinLimits code) (disk : ℕ) (disk-below : d
         }
 
     -- An accepted plan keeps every rule of gf2's acceptance, for the code's matrix
-    pub accepted-if-fine : planVerdict code disk plan ≡ Fine
-        → Accepted (matrix code) (lost (code .layout) disk) (survives (code .layout) disk) (lost (code .layout) disk) (stepsOf plan)
+    pub accepted-if-fine : planVerdict code disk plan ≡ Fine → AcceptedFor code disk (stepsOf plan)
     unfolding planVerdict
     accepted-if-fine e = body-fine (both-fine (firstOf (headFaults (code .layout) (code .data_symbols) disk plan)) _ e .1) .accepted
+
+    -- A plan whose head fits, whose steps are formed, which gf2 accepts and whose stated count is true deserves acceptance
+    pub deserves-if-rules-kept : HeadFits code disk plan → EachFormed (symbols code) (plan .steps) → AcceptedFor code disk (stepsOf plan)
+        → plan .read-count ≡ trueReadCount (code .layout) disk (stepsOf plan) → Deserves code disk plan (plan .read-count)
+    deserves-if-rules-kept head-fits each-formed accepted true-count =
+        record {
+          head-fits = head-fits;
+          each-formed = each-formed;
+          uses-known = accepted .well-formed;
+          restores =
+              λ L L-positive.
+              accepted-restores-stripes (matrix code) (lost (code .layout) disk) (survives (code .layout) disk) (lost (code .layout) disk) (stepsOf plan)
+              matrix-lost-below matrix-survives-below accepted L (code .data_symbols);
+          stated-count = refl;
+          true-count = sym true-count;
+        }
 
     -- A plan whose verdict is fine deserves acceptance
     pub deserves-if-fine : planVerdict code disk plan ≡ Fine → Deserves code disk plan (plan .read-count)
@@ -277,17 +296,7 @@ module _ (code : Code) (within : WithinLimits code) (disk : ℕ) (disk-below : d
     deserves-if-fine e =
         let both = both-fine (firstOf (headFaults (code .layout) (code .data_symbols) disk plan)) _ e in
         let body = body-fine (both .1) in
-        record {
-          head-fits = head-fits-if-fine code disk plan (both .0);
-          each-formed = body .each-formed;
-          uses-known = body .accepted .well-formed;
-          restores =
-              λ L L-positive.
-              accepted-restores-stripes (matrix code) (lost (code .layout) disk) (survives (code .layout) disk) (lost (code .layout) disk) (stepsOf plan)
-              matrix-lost-below matrix-survives-below (body .accepted) L (code .data_symbols);
-          stated-count = refl;
-          true-count = sym (body .true-count);
-        }
+        deserves-if-rules-kept (head-fits-if-fine code disk plan (both .0)) (body .each-formed) (body .accepted) (body .true-count)
 
     -- A plan whose verdict is fine, run on a valid stripe with the disk's strip ruined, gives that stripe back
     pub gives-stripe-back-if-fine : planVerdict code disk plan ≡ Fine → (L : ℕ) (stripe x : List ℕ) → Valid L (code .data_symbols) (matrix code) stripe
@@ -302,7 +311,7 @@ module _ (code : Code) (within : WithinLimits code) (disk : ℕ) (disk-below : d
 
     module _ (count : ℕ) (deserves : Deserves code disk plan count) where
       -- A plan that deserves acceptance is accepted by gf2's rules: it fills every lost place, since one that is never filled can't come out right
-      pub accepted-if-deserves : Accepted (matrix code) (lost (code .layout) disk) (survives (code .layout) disk) (lost (code .layout) disk) (stepsOf plan)
+      pub accepted-if-deserves : AcceptedFor code disk (stepsOf plan)
       accepted-if-deserves =
           accepted-if-restores-stripes (matrix code) (lost (code .layout) disk) (survives (code .layout) disk) (lost (code .layout) disk) (stepsOf plan)
           matrix-lost-below matrix-survives-below 1 (code .data_symbols) (omega arith) matrix-below (deserves .uses-known)

@@ -31,7 +31,7 @@ use Rattle.refusals.specs.declared.Verdict.the-variants as Verdicts
 -- ------------------------------------------------------------------
 -- A step of the sheet
 
--- A step that is not malformed names symbols of the array
+-- A step of the sheet names symbols of the array
 pub record StepFormed (count : ℕ) (s : SheetStep) : Type 0 where
   pub place-below : s .place < count
   pub source-below : s .source < count
@@ -46,6 +46,7 @@ or-false-right : (a b : Bool) → (a || b) ≡ false → b ≡ false
 or-false-right true b h = absurd (true≢false h)
 or-false-right false b h = h
 
+-- One that is not malformed does
 pub formed-step : (count : ℕ) (s : SheetStep) → malformed count s ≡ false → StepFormed count s
 formed-step count s h =
     let numbers = or-false-left (ltb 2 (s .kind) || leb count (s .place) || leb count (s .source)) _ h in
@@ -154,6 +155,7 @@ pub record StepRead (layout : Layout) (disk : ℕ) (known : ℕ → Bool) (numbe
   pub on-lost-place : lost layout disk (s .place) ≡ true
   pub is-ready : ready p known ≡ true
 
+-- A reading that is a step says all of that
 pub step-read : (layout : Layout) (disk : ℕ) (known : ℕ → Bool) (number : ℕ) (s : SheetStep) (p : Step)
     → stepReading layout disk known number s ≡ Readings.Step p → StepRead layout disk known number s p
 unfolding stepReading
