@@ -7,6 +7,8 @@ from functools import lru_cache
 from typing import Union
 
 import second
+import second_checker
+import second_desk
 from second import Refusal
 
 ROOM = 262144
@@ -92,6 +94,15 @@ class Vectors:
         answer = second.look_up(sheet, disk, size, filled(length, seed), filled(spare_length, seed + 1), symbol)
         numbers = [disk, size, length, seed, spare_length, seed + 1, symbol]
         self.add(kind, 4, numbers, sheet, shown(answer))
+
+    def check(self, kind: str, sheet: bytes, disk: int, plan: bytes) -> None:
+        answer = second_checker.check(sheet, disk, plan)
+        line = refused(answer) if isinstance(answer, Refusal) else f"accepted reads {answer}"
+        self.add(kind, 5, [disk, len(sheet)], sheet + plan, line)
+
+    def desk(self, kind: str, given: bytes) -> None:
+        """The desk's lines stand in one line of the output, each newline shown as a bar."""
+        self.add(kind, 6, [], given, second_desk.desk(given).replace("\n", "|"))
 
 
 def shown(answer: Union[bytes, Refusal]) -> str:

@@ -80,6 +80,11 @@ def sheet_of(code: Code) -> bytes:
     return head + b"".join(row.to_bytes(8, "little") for row in code.rows)
 
 
+def changed(sheet: bytes, at: int, value: int) -> bytes:
+    """A sheet with another byte at a place."""
+    return sheet[:at] + bytes([value]) + sheet[at + 1 :]
+
+
 # Families
 
 

@@ -8,9 +8,12 @@
 //   call 2, encode: L, data length, data seed, stripe length, stripe seed, sheet length; the sheet, the data's first bytes
 //   call 3, one strip: disk, L, stripe length, stripe seed; the sheet
 //   call 4, look up: disk, L, stripe length, stripe seed, spare length, spare seed, symbol; the sheet
+//   call 5, check: disk, code sheet length; the code sheet, the plan sheet
+//   call 6, the desk: its whole input
 ghost use mathlib.Core.Path.{_≡_};
 ghost use Prim.Native.Nat.{_≤_, _<_};
 ghost use lib.ListN.{length};
+use checker::Checked;
 use codes::Code;
 use families::Family;
 use families::Written;
@@ -18,6 +21,9 @@ use libc::STDIN_FILENO;
 use libc::STDOUT_FILENO;
 use refusals::Refusal;
 use refusals::Verdict;
+
+// The most bytes that a record has.
+const RECORD: usize = 8192;
 
 // The most bytes that a long input has.
 const ROOM: usize = 262144;
@@ -273,6 +279,43 @@ fn look_up(record: &[u8], stripe: &mut [u8], spare: &mut [u8]) {
     print_part(views::look_up(sheet, disk, size, stripe, spare, symbol));
 }
 
+fn check(record: &[u8]) {
+    let rest = rest_at(record, 17);
+    let sheet = front_of(rest, number_at(record, 9));
+    let plan = rest_at(rest, sheet.len());
+    let checked = checker::check(sheet, number_at(record, 1), plan);
+    match checked {
+        Checked::Accepted { reads } => {
+            print(b"accepted reads");
+            print_number(reads as u64);
+        }
+        Checked::Refused(refusal) => {
+            print_refusal(refusal);
+        }
+    }
+    print(b"\n");
+}
+
+// The desk's text as one line: each newline is shown as a bar.
+fn print_on_one_line(text: &[u8]) {
+    let mut i = 0;
+    while i < text.len() {
+        if text[i] == b'\n' {
+            print(b"|");
+        } else {
+            print(&text[i..i + 1]);
+        }
+        i += 1;
+    }
+    print(b"\n");
+}
+
+fn desk(record: &[u8]) {
+    let mut out = [0u8; 160];
+    let length = lines::write_lines(rest_at(record, 1), &mut out);
+    print_on_one_line(front_of(&out, length));
+}
+
 // Makes a call on the two long inputs that it is lent, or on the first alone.
 fn call_on(record: &[u8], call: usize, first: &mut [u8], second: &mut [u8]) {
     match call {
@@ -315,7 +358,9 @@ fn answer(record: &[u8]) {
         1 => call_with(record, call, number_at(record, 25), 0),
         2 => call_with(record, call, number_at(record, 9), number_at(record, 25)),
         3 => call_with(record, call, number_at(record, 17), 0),
-        _ => call_with(record, call, number_at(record, 17), number_at(record, 33)),
+        4 => call_with(record, call, number_at(record, 17), number_at(record, 33)),
+        5 => check(record),
+        _ => desk(record),
     }
 }
 
@@ -332,6 +377,13 @@ fn record_in(room: &mut [u8], length: usize) -> bool {
     true
 }
 
+// The place of one record.
+fn record_room() -> [u8; RECORD]
+    ensures { λ r. ⌜ 8192 ≡ length r ⌝ }
+{
+    [0; RECORD]
+}
+
 // Answers the next record, or says that there is none.
 fn next_record() -> bool {
     let mut head = [0u8; 2];
@@ -339,7 +391,7 @@ fn next_record() -> bool {
     if got < 2 {
         return false;
     }
-    let mut room = io::buffer();
+    let mut room = record_room();
     record_in(&mut room, byte_at(&head, 0) + 256 * byte_at(&head, 1))
 }
 

@@ -1,0 +1,131 @@
+// What the desk program prints: standard input to lines.
+ghost use mathlib.Core.Path.{_≡_};
+ghost use Prim.Native.Nat.{_≤_, _<_};
+ghost use lib.ListN.{length};
+ghost use Rattle.lines.specs.Lines.{sheetLengthIn, codeSheetIn, planSheetIn, refusalLine, answerLines, linesOf, deskText, writtenLength, writtenOver};
+ghost use Rattle.lines.specs.Texts.{textOf, HasRoom, Extended, Holds};
+ghost use Rattle.refusals.specs.Refusals.{numberOf, placeOf};
+ghost use Rattle.refusals.specs.declared.Verdict.the-variants.{Fine};
+
+mod text;
+
+use checker::Checked;
+use checker::check;
+use codes::Code;
+use refusals::Refusal;
+use refusals::Verdict;
+use sheets::byte_at;
+use sheets::read_code;
+use text::Text;
+
+// The code sheet's length, low byte first.
+fn sheet_length(input: &[u8]) -> usize
+    ensures { λ r. ⌜ (r ≡ sheetLengthIn (now (input .entry))) × (r < 65536) ⌝ }
+{
+    byte_at(input, 1) + 256 * byte_at(input, 2)
+}
+
+// The code sheet, or what there is of it.
+fn code_sheet(input: &[u8]) -> &[u8]
+    ensures { λ r. ⌜ now r ≡ codeSheetIn (now (input .entry)) ⌝ }
+{
+    if input.len() < 3 {
+        return &input[0..0];
+    }
+    let end = 3 + sheet_length(input);
+    if input.len() < end {
+        return &input[3..];
+    }
+    &input[3..end]
+}
+
+// The plan sheet: what stands behind the code sheet, to the end.
+fn plan_sheet(input: &[u8]) -> &[u8]
+    ensures { λ r. ⌜ now r ≡ planSheetIn (now (input .entry)) ⌝ }
+{
+    let start = 3 + sheet_length(input);
+    if input.len() < start {
+        return &input[0..0];
+    }
+    &input[start..]
+}
+
+fn push_refusal(text: Text, refusal: Refusal) -> Text
+    requires { ⌜ HasRoom text 53 ⌝ }
+    ensures { λ r. ⌜ Extended text 53 (refusalLine (numberOf refusal) (placeOf refusal)) r ⌝ }
+{
+    text.push_refusal(refusal.number() as usize, refusal.place())
+}
+
+fn push_answer(text: Text, answer: Checked) -> Text
+    requires { ⌜ HasRoom text 53 ⌝ }
+    ensures { λ r. ⌜ Extended text 53 (answerLines answer) r ⌝ }
+{
+    match answer {
+        Checked::Accepted { reads } => text.push_accepted(reads),
+        Checked::Refused(refusal) => push_refusal(text, refusal),
+    }
+}
+
+// The line of a refused code sheet, alone.
+fn refusal_text(refusal: Refusal) -> Text
+    ensures { λ r. ⌜ Holds r (refusalLine (numberOf refusal) (placeOf refusal)) ⌝ }
+{
+    push_refusal(Text::empty(), refusal)
+}
+
+// The lines for a code sheet that was read: the code, the disk, the answer.
+fn report(code: Code, disk: usize, answer: Checked) -> Text
+    ensures { λ r. ⌜ Holds r (linesOf Fine code disk answer) ⌝ }
+{
+    let layout = code.layout;
+    let opening = Text::empty()
+        .push_code(layout.disks, layout.height, code.data_symbols)
+        .push_disk(disk);
+    push_answer(opening, answer)
+}
+
+// What the desk prints for an input.
+fn desk_text(input: &[u8]) -> Text
+    ensures { λ r. ⌜ Holds r (deskText (now (input .entry))) ⌝ }
+{
+    let sheet = code_sheet(input);
+    let plan = plan_sheet(input);
+    let reading = read_code(sheet);
+    let verdict = reading.verdict;
+    let code = reading.code;
+    let Verdict::Refused(refusal) = verdict else {
+        let disk = byte_at(input, 0);
+        return report(code, disk, check(sheet, disk, plan));
+    };
+    refusal_text(refusal)
+}
+
+// Copies a text to the front of a buffer that has room for it, and answers its length; else 0, and the buffer stays.
+fn copy_text(text: Text, out: &mut [u8]) -> usize
+    requires { ⌜ (length (text .bytes) ≡ 160) × (text .len ≤ 160) ⌝ }
+    ensures { λ r. ⌜ r ≡ writtenLength (textOf text) (now (out .entry)) ⌝ }
+    ensures { λ r. ⌜ now (out .exit) ≡ writtenOver (textOf text) (now (out .entry)) ⌝ }
+{
+    let bytes = text.bytes;
+    let len = text.len;
+    if out.len() < len {
+        return 0;
+    }
+    let mut i = 0;
+    while i < len {
+        out[i] = bytes[i];
+        i += 1;
+    }
+    len
+}
+
+// Writes what the desk prints for an input at the front of `out`, and answers the text's length; bytes behind it stay.
+// Where `out` is shorter than the text it answers 0 and writes nothing; 160 bytes are room for every text.
+pub fn write_lines(input: &[u8], out: &mut [u8]) -> usize
+    ensures answer { λ r. ⌜ r ≡ writtenLength (deskText (now (input .entry))) (now (out .entry)) ⌝ }
+    ensures out { λ r. ⌜ now (out .exit) ≡ writtenOver (deskText (now (input .entry))) (now (out .entry)) ⌝ }
+    ensures short { λ r. ⌜ length (deskText (now (input .entry))) ≤ 160 ⌝ }
+{
+    copy_text(desk_text(input), out)
+}
