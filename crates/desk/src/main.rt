@@ -4,7 +4,8 @@ ghost use lib.ListN.{length};
 use libc::STDIN_FILENO;
 use libc::STDOUT_FILENO;
 
-// The input that settles every answer: 3 bytes, the longest code sheet that two bytes can announce, and one byte more than a plan sheet has.
+// The bytes that settle every answer (`text-settled` of the crate lines): 3, the longest code sheet that two bytes can announce,
+// and one more than a plan sheet has.
 const ROOM: usize = 68620;
 
 fn input_room() -> [u8; ROOM]

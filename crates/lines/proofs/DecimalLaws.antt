@@ -46,6 +46,7 @@ decimal-last (suc n) h =
     simp (le-ltb (suc n) 10 h)
     (ap (λ (front : List ℕ). front ++ (digit (suc n % 10) ∷ [])) (digits-settled n (suc n / 10) (suc n / 10) (omega arith) (omega arith)))
 
+-- However many digits are allowed, there is one
 digits-not-empty : (more number : ℕ) → 0 < length (digits more number)
 unfolding digits
 digits-not-empty zero number = omega arith
@@ -57,6 +58,7 @@ pub decimal-not-empty : (number : ℕ) → 0 < length (decimal number)
 unfolding decimal
 decimal-not-empty number = digits-not-empty number number
 
+-- However many digits are allowed, a number below a power of ten has no more than that has zeros
 digits-length : (most more number : ℕ) → number < 10 ^ suc most → length (digits more number) ≤ suc most
 unfolding digits
 digits-length most zero number h = omega arith

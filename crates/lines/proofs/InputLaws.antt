@@ -23,7 +23,7 @@ pub plan-sheet-empty-past-end : (input : List ℕ) → length input ≤ 3 + shee
 unfolding planSheetIn
 plan-sheet-empty-past-end input h = drop-of-length-le (drop 3 input) {i = sheetLengthIn input} (simp length-drop (omega arith))
 
--- A part from a place to the end
+-- A part from a place to the end is all behind that place
 take-to-end : (input : List ℕ) (at : ℕ) → take (length input - at) (drop at input) ≡ drop at input
 take-to-end input at = take-all (length input - at) (drop at input) (simp length-drop (omega arith))
 

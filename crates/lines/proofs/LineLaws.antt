@@ -48,6 +48,7 @@ module _ (input sheet : List ℕ) (read : Reading) (as-sheet : sheet ≡ codeShe
       checked-so : answer ≡ checked (codeSheetIn input) (diskIn input) (planSheetIn input)
       checked-so = cc
 
+-- The lines of any verdict and answer are not empty
 lines-not-empty : (verdict : Verdict) (code : Code) (disk : ℕ) (answer : Checked) → 0 < length (linesOf verdict code disk answer)
 unfolding refusalLine codeLine
 lines-not-empty (Refused refusal) code disk answer = simp length-append (omega arith)

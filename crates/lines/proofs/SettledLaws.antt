@@ -35,6 +35,7 @@ lengthFaults steps size =
     ∷ (ltb (planLength steps) size gets PlanSheetTooLong)
     ∷ []
 
+-- Where nothing was refused before, the step limit or 12 refuses either length
 limit-settles : (test : Bool) (steps size other : ℕ) → ltb 1024 steps ≡ test → 3082 ≤ size → 3082 ≤ other
     → andThen Fine (lengthFaults steps size) ≡ andThen Fine (lengthFaults steps other)
 unfolding orIf
@@ -100,6 +101,7 @@ module _ (plan : List ℕ) (most : ℕ) (long : 3082 ≤ most) (longer : most �
       (refused-stays (andThen read (sheetFaults (code .layout) (code .data_symbols) disk plan)) (bodyVerdict code disk (planIn plan))
       (long-is-refused read (code .layout) (code .data_symbols) disk plan (omega arith)))
 
+-- A plan sheet is its own front, or is refused as its front is
 checked-settled-by : (test : Bool) (sheet : List ℕ) (disk : ℕ) (plan : List ℕ) (most : ℕ) → leb (length plan) most ≡ test → 3082 ≤ most
     → checked sheet disk (take most plan) ≡ checked sheet disk plan
 unfolding checked
@@ -123,29 +125,36 @@ drop-take (suc at) size [] = ap (drop (suc at)) (take-nil (suc at + size)) ∙ s
 drop-take (suc at) size (byte ∷ bytes) = ap (λ (n : ℕ). drop (suc at) (take n (byte ∷ bytes))) (suc-add at size) ∙ drop-take at size bytes
 
 module _ (input : List ℕ) (more : ℕ) (long : 3082 ≤ more) where
+  -- The code sheet's length
   abbrev size : ℕ
   size = sheetLengthIn input
 
+  -- The input as far as so many bytes behind the code sheet
   abbrev front : List ℕ
   front = take (3 + (size + more)) input
 
+  -- It has the input's first three bytes
   front-byte : (i : ℕ) → i < 3 → getD front i 0 ≡ getD input i 0
   front-byte i h = getD-take (3 + (size + more)) input i 0 (omega arith)
 
+  -- It announces the same length
   length-settled : sheetLengthIn front ≡ size
   unfolding sheetLengthIn
   length-settled = ap₂ (λ (low high : ℕ). low + 256 * high) (front-byte 1 (omega arith)) (front-byte 2 (omega arith))
 
+  -- It has the same code sheet
   code-sheet-settled : codeSheetIn front ≡ codeSheetIn input
   unfolding codeSheetIn
   code-sheet-settled =
       ap₂ take length-settled (drop-take 3 (size + more) input) ∙ take-take size (size + more) (drop 3 input) (omega arith)
 
+  -- Its plan sheet is the front of the input's
   plan-sheet-settled : planSheetIn front ≡ take more (planSheetIn input)
   unfolding planSheetIn
   plan-sheet-settled =
       ap₂ drop length-settled (drop-take 3 (size + more) input) ∙ drop-take size more (drop 3 input)
 
+  -- It gives the same text
   front-settles : deskText front ≡ deskText input
   unfolding deskText
   front-settles =

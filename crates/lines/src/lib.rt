@@ -50,6 +50,7 @@ fn plan_sheet(input: &[u8]) -> &[u8]
     &input[start..]
 }
 
+// The line of a refusal: its number and its place.
 fn push_refusal(text: Text, refusal: Refusal) -> Text
     requires { ⌜ HasRoom text 53 ⌝ }
     ensures { λ r. ⌜ Extended text 53 (refusalLine (numberOf refusal) (placeOf refusal)) r ⌝ }
@@ -57,6 +58,7 @@ fn push_refusal(text: Text, refusal: Refusal) -> Text
     text.push_refusal(refusal.number() as usize, refusal.place())
 }
 
+// The lines of what the check answers.
 fn push_answer(text: Text, answer: Checked) -> Text
     requires { ⌜ HasRoom text 53 ⌝ }
     ensures { λ r. ⌜ Extended text 53 (answerLines answer) r ⌝ }

@@ -24,6 +24,7 @@ impl Text {
         }
     }
 
+    // One byte more.
     fn push(self, byte: u8) -> Text
         requires { ⌜ HasRoom self 1 ⌝ }
         ensures { λ r. ⌜ Extended self 1 (byte ∷ []) r ⌝ }
@@ -37,6 +38,7 @@ impl Text {
         }
     }
 
+    // A piece of text, byte by byte.
     fn push_text(self, piece: &[u8]) -> Text
         requires { ⌜ HasRoom self (length (now piece)) ⌝ }
         ensures { λ r. ⌜ Extended self (length (now (piece .entry))) (now (piece .entry)) r ⌝ }
