@@ -13,6 +13,7 @@ import second
 from arrays import SMALLEST, SPECIAL_CODES, below, random_bytes, random_code, random_codes, random_row
 from desk_vectors import add_desk_vectors
 from plan_vectors import add_plan_vectors
+from rebuild_vectors import add_rebuild_vectors
 from records import ROOM, Vectors
 from second import Code, changed
 
@@ -307,6 +308,7 @@ def main() -> None:
     add_views_order(vectors)
     add_plan_vectors(vectors)
     add_desk_vectors(vectors)
+    add_rebuild_vectors(vectors)
     (CRATE / "stdin").write_bytes(b"".join(vectors.records))
     (CRATE / "stdout").write_text("".join(line + "\n" for line in vectors.lines))
     for kind, count in vectors.kinds.items():

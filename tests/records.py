@@ -4,11 +4,12 @@ crates/vectors/src/main.rt describes the records. What a call answers comes from
 """
 from collections import Counter
 from functools import lru_cache
-from typing import Union
+from typing import Optional, Union
 
 import second
 import second_checker
 import second_desk
+import second_rebuild
 from second import Refusal
 
 ROOM = 262144
@@ -99,6 +100,29 @@ class Vectors:
         answer = second_checker.check(sheet, disk, plan)
         line = refused(answer) if isinstance(answer, Refusal) else f"accepted reads {answer}"
         self.add(kind, 5, [disk, len(sheet)], sheet + plan, line)
+
+    def rebuild(
+        self, kind: str, sheet: bytes, disk: int, plan: bytes, size: int, *, valid: bool = False, length: Optional[int] = None
+    ) -> None:
+        """On a stripe of the length that the sheet asks for, or another one. A valid stripe is encoded from data first;
+        then the lost strip, or what of it there is, is filled anew."""
+        seed = self.seed()
+        code = second.read_code(sheet)
+        known = not isinstance(code, Refusal) and disk < code.disks and size <= ROOM
+        stripe_length = code.symbols * size if length is None else length
+        data_length = code.data_symbols * size if valid else 0
+        stripe = filled(stripe_length, seed)
+        if valid:
+            stripe = second.encoding(code, size, filled(data_length, seed + 1))
+        start = min(disk * code.height * size, stripe_length) if known else 0
+        end = min(start + code.height * size, stripe_length) if known else 0
+        before = stripe[:start] + filled(end - start, seed + 2) + stripe[end:]
+        refusal, after = second_rebuild.rebuild(sheet, disk, plan, size, before)
+        line = refused(refusal) if refusal else "fine"
+        if valid and not refusal:
+            assert after == stripe, kind
+        numbers = [disk, size, stripe_length, seed, data_length, seed + 1, start, end, seed + 2, len(sheet)]
+        self.add(kind, 7, numbers, sheet + plan, f"{line} digest {digest(after)}")
 
     def desk(self, kind: str, given: bytes) -> None:
         """The desk's lines stand in one line of the output, each newline shown as a bar."""

@@ -21,7 +21,10 @@ use Rattle.gf2.proofs.Booleans.{and-left}
 use Rattle.gf2.specs.BitSets.{has, with, overlap, count, countIn}
 use Rattle.gf2.specs.Lists.{tabulate, firstFrom}
 use Rattle.gf2.specs.Plans.{run, filledAfter}
-use Rattle.gf2.specs.Stripes.{encoding, encodedSymbol, xorBytes}
+use Rattle.gf2.specs.Stripes.{encoding, encodedSymbol, xorBytes, putSymbol, runOnStripe}
+use Rattle.lines.specs.Decimals.{decimal, digits}
+use Rattle.lines.specs.Lines.{deskText, codeSheetIn, planSheetIn, sheetLengthIn, labelled, codeLine, diskLine, acceptedLines}
+use Rattle.rebuild.specs.Rebuild.{stripeAfter, rebuildVerdict}
 use Rattle.refusals.specs.Orders.{orIf}
 use Rattle.refusals.specs.declared.Verdict.the-variants.{Fine}
 use Rattle.sheets.specs.Bytes.{lowFirst, lowBytes}
@@ -117,7 +120,7 @@ p1 before e = rw e
 -- The table
 
 pub all-right : AllRight table
-unfolding table square emptyRow rowBytes lowBytes lowFirst checked checkVerdict reading codeVerdict codeIn rowIn rowsOf tabulate strayAt firstFrom has with orIf symbolsOf firstSymbol heightOf onDisk bodyVerdict stepsVerdict sheetSteps run filledAfter readByAny howMany familyCode familyRow diskRow unit sumOver extraEntry diagonalEntry
+unfolding table square emptyRow rowBytes lowBytes lowFirst checked checkVerdict reading codeVerdict codeIn rowIn rowsOf tabulate strayAt firstFrom has with orIf symbolsOf firstSymbol heightOf onDisk bodyVerdict stepsVerdict sheetSteps run filledAfter readByAny howMany familyCode familyRow diskRow unit sumOver extraEntry diagonalEntry stripeAfter rebuildVerdict runOnStripe putSymbol xorBytes deskText codeSheetIn planSheetIn sheetLengthIn labelled codeLine diskLine acceptedLines decimal digits
 all-right = (
   p1,
   (
@@ -133,16 +136,22 @@ all-right = (
             (
               refl,
               (
-                p8,
+                refl,
                 (
                   refl,
                   (
-                    (refl, (refl, (refl, (refl, (refl, (refl, (refl, (refl, tt)))))))),
+                    p8,
                     (
-                      (refl, tt),
+                      refl,
                       (
-                        (refl, tt),
-                        tt,
+                        (refl, (refl, (refl, (refl, (refl, (refl, (refl, (refl, tt)))))))),
+                        (
+                          (refl, tt),
+                          (
+                            (refl, tt),
+                            tt,
+                          ),
+                        ),
                       ),
                     ),
                   ),

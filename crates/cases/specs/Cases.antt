@@ -1,7 +1,7 @@
 -- The worked cases that document 01 marks P, gathered in a single table under one claim, `AllRight table`.
 use mathlib.Core.Path.{_≡_}
 use mathlib.Core.Bool.{true}
-use mathlib.Core.List.{List, [], _∷_}
+use mathlib.Core.List.{List, [], _∷_, _++_}
 use Prim.Native.Nat.{ℕ, suc, _<_, _^_}
 use lib.ListN.{getD, length, replicate}
 use Rattle.checker.specs.Check.{checked}
@@ -16,6 +16,8 @@ use Rattle.families.specs.declared.Family.{Family}
 use Rattle.families.specs.declared.Family.the-variants.{Liberation, RowDiagonal}
 use Rattle.gf2.specs.BitSets.{with}
 use Rattle.gf2.specs.Stripes.{symbol, patternStripe}
+use Rattle.lines.specs.Lines.{deskText}
+use Rattle.rebuild.specs.Rebuild.{stripeAfter}
 use Rattle.refusals.specs.declared.Refusal.the-variants.{TargetNotLost, UnfilledPlaceUsed, NeverFilled, EndsWrong, WrongReadCount}
 use Rattle.refusals.specs.declared.Verdict.the-variants.{Fine}
 use Rattle.sheets.specs.CodeReading.{reading}
@@ -38,6 +40,15 @@ abbrev pub squarePlan : ℕ → ℕ → ℕ → ℕ → List ℕ
 squarePlan reads kind first last =
     6 ∷ 1 ∷ 4 ∷ 2 ∷ 4 ∷ 0 ∷ reads ∷ 4 ∷ 0 ∷ kind ∷ first ∷ 2 ∷ 2 ∷ 0 ∷ 4 ∷ 1 ∷ 1 ∷ 2 ∷ 2 ∷ 1 ∷ last ∷ []
 
+-- `code 4 2 4`, `disk 0`, `accepted`, `reads 3`
+abbrev pub squareLines : List ℕ
+squareLines =
+    99 ∷ 111 ∷ 100 ∷ 101 ∷ 32 ∷ 52 ∷ 32 ∷ 50 ∷ 32 ∷ 52 ∷ 10
+    ∷ 100 ∷ 105 ∷ 115 ∷ 107 ∷ 32 ∷ 48 ∷ 10
+    ∷ 97 ∷ 99 ∷ 99 ∷ 101 ∷ 112 ∷ 116 ∷ 101 ∷ 100 ∷ 10
+    ∷ 114 ∷ 101 ∷ 97 ∷ 100 ∷ 115 ∷ 32 ∷ 51 ∷ 10
+    ∷ []
+
 -- A row by its bits
 abbrev pub withBits : List ℕ → ℕ
 withBits [] = 0
@@ -51,6 +62,10 @@ pub data Case : Type 0 where
   encodes : List ℕ → ℕ → List ℕ → List ℕ → Case
   -- Checking a plan sheet for a code sheet and a disk answers so
   answers : List ℕ → ℕ → List ℕ → Checked → Case
+  -- A rebuild of a disk by a plan sheet turns the one stripe, of symbols of so many bytes, into the other
+  rebuilds : List ℕ → ℕ → List ℕ → ℕ → List ℕ → List ℕ → Case
+  -- For an input the desk prints these lines, as ASCII codes
+  prints : List ℕ → List ℕ → Case
   -- A family's rows, from a symbol on
   rows-from : Family → ℕ → List ℕ → Case
   -- The disk of a code sheet can't be rebuilt: no plan of any length would be accepted, and the pattern is a good one
@@ -78,6 +93,8 @@ abbrev pub Right : Case → Type 0
 Right (encodes codeSheet L contents stripe) =
     (before : List ℕ) → length before ≡ length stripe → encodedStripe codeSheet L contents before ≡ stripe
 Right (answers codeSheet disk planSheet answer) = checked codeSheet disk planSheet ≡ answer
+Right (rebuilds codeSheet disk planSheet L before after) = stripeAfter codeSheet disk planSheet L before ≡ after
+Right (prints input text) = deskText input ≡ text
 Right (rows-from family at rows) = From (familyCode family .rows) at rows
 Right (pattern-of codeSheet disk pattern) = CannotBeRebuilt (reading codeSheet .code) disk pattern
 
@@ -102,6 +119,12 @@ table =
     encodes square 1 (0x11 ∷ 0x22 ∷ 0x44 ∷ 0x88 ∷ []) (0x11 ∷ 0x22 ∷ 0x44 ∷ 0x88 ∷ 0x55 ∷ 0xAA ∷ 0x99 ∷ 0x66 ∷ [])
     -- P2: accepted, 3 reads
     ∷ answers square 0 (squarePlan 3 1 0 7) (Answers.Accepted 3)
+    -- .. run on P1 with the first two bytes FF FF it gives P1 back
+    ∷ rebuilds square 0 (squarePlan 3 1 0 7) 1
+    (0xFF ∷ 0xFF ∷ 0x44 ∷ 0x88 ∷ 0x55 ∷ 0xAA ∷ 0x99 ∷ 0x66 ∷ [])
+    (0x11 ∷ 0x22 ∷ 0x44 ∷ 0x88 ∷ 0x55 ∷ 0xAA ∷ 0x99 ∷ 0x66 ∷ [])
+    -- .. and the desk prints `code 4 2 4`, `disk 0`, `accepted`, `reads 3`, each on a line, and nothing else
+    ∷ prints (0 ∷ 70 ∷ 0 ∷ square ++ squarePlan 3 1 0 7) squareLines
     -- P3: count 4
     ∷ answers square 0 (squarePlan 4 1 0 7) (Answers.Refused (WrongReadCount 3))
     -- P4: last source 06

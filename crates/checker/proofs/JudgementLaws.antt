@@ -132,7 +132,7 @@ pub survives-below : (layout : Layout) (disk : ℕ) → PlacesBelow (symbolsOf l
 survives-below layout disk s h = ltb-true s (symbolsOf layout) (and-left (ltb s (symbolsOf layout)) (not (onDisk layout disk s)) h)
 
 -- Each symbol is lost, or survives and is never written
-lost-or-survives : (layout : Layout) (disk s : ℕ) → s < symbolsOf layout
+pub lost-or-survives : (layout : Layout) (disk s : ℕ) → s < symbolsOf layout
     → (lost layout disk s ≡ true) ⊎ ((survives layout disk s ≡ true) × (lost layout disk s ≡ false))
 lost-or-survives layout disk s h = by-disk (onDisk layout disk s) refl
   where

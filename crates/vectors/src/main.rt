@@ -10,6 +10,8 @@
 //   call 4, look up: disk, L, stripe length, stripe seed, spare length, spare seed, symbol; the sheet
 //   call 5, check: disk, code sheet length; the code sheet, the plan sheet
 //   call 6, the desk: its whole input
+//   call 7, rebuild: disk, L, stripe length, stripe seed, data length (0: no data is encoded first), data seed, start and end of
+//     the strip that is ruined, its seed, code sheet length; the code sheet, the plan sheet
 ghost use mathlib.Core.Path.{_≡_};
 ghost use Prim.Native.Nat.{_≤_, _<_};
 ghost use lib.ListN.{length};
@@ -316,12 +318,51 @@ fn desk(record: &[u8]) {
     print_on_one_line(front_of(&out, length));
 }
 
+// Fills a part of a stripe from a seed, where there is such a part.
+fn ruin(stripe: &mut [u8], start: usize, end: usize, seed: usize) {
+    if start > end {
+        return;
+    }
+    if end > stripe.len() {
+        return;
+    }
+    fill(&mut stripe[start..end], seed);
+}
+
+// Makes a valid stripe, where there is data to encode.
+fn encode_first(sheet: &[u8], size: usize, contents: &[u8], stripe: &mut [u8]) {
+    if contents.len() == 0 {
+        return;
+    }
+    encoding::encode(sheet, size, contents, stripe);
+}
+
+fn rebuild(record: &[u8], stripe: &mut [u8], contents: &mut [u8]) {
+    let disk = number_at(record, 1);
+    let size = number_at(record, 9);
+    let rest = rest_at(record, 81);
+    let sheet = front_of(rest, number_at(record, 73));
+    let plan = rest_at(rest, sheet.len());
+    fill(stripe, number_at(record, 25));
+    fill(contents, number_at(record, 41));
+    encode_first(sheet, size, contents, stripe);
+    ruin(
+        stripe,
+        number_at(record, 49),
+        number_at(record, 57),
+        number_at(record, 65),
+    );
+    print_verdict(rebuild::rebuild(sheet, disk, plan, size, stripe));
+    print_digest(stripe);
+}
+
 // Makes a call on the two long inputs that it is lent, or on the first alone.
 fn call_on(record: &[u8], call: usize, first: &mut [u8], second: &mut [u8]) {
     match call {
         1 => write_family(record, first),
         2 => encode(record, first, second),
         3 => show_strip(record, first),
+        7 => rebuild(record, first, second),
         _ => look_up(record, first, second),
     }
 }
@@ -360,7 +401,8 @@ fn answer(record: &[u8]) {
         3 => call_with(record, call, number_at(record, 17), 0),
         4 => call_with(record, call, number_at(record, 17), number_at(record, 33)),
         5 => check(record),
-        _ => desk(record),
+        6 => desk(record),
+        _ => call_with(record, call, number_at(record, 17), number_at(record, 33)),
     }
 }
 

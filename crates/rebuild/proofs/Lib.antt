@@ -1,0 +1,4 @@
+pub mod SymbolLoopLaws
+pub mod RunLaws
+pub mod RestoreLaws
+pub mod CallLaws
