@@ -14,6 +14,16 @@ mod proved {
             stripe: *mut u8,
             stripe_length: usize,
         ) -> u64;
+        fn navorzim_rebuild(
+            sheet: *const u8,
+            sheet_length: usize,
+            disk: usize,
+            plan: *const u8,
+            plan_length: usize,
+            size: usize,
+            stripe: *mut u8,
+            stripe_length: usize,
+        ) -> u64;
         fn navorzim_check(
             sheet: *const u8,
             sheet_length: usize,
@@ -32,6 +42,22 @@ mod proved {
                 size,
                 contents.as_ptr(),
                 contents.len(),
+                stripe.as_mut_ptr(),
+                stripe.len(),
+            )
+        }
+    }
+
+    pub fn rebuild(sheet: &[u8], disk: usize, plan: &[u8], size: usize, stripe: &mut [u8]) -> u64 {
+        // SAFETY: each pointer is that of a slice with the length beside it, and the stripe is lent for the call alone.
+        unsafe {
+            navorzim_rebuild(
+                sheet.as_ptr(),
+                sheet.len(),
+                disk,
+                plan.as_ptr(),
+                plan.len(),
+                size,
                 stripe.as_mut_ptr(),
                 stripe.len(),
             )
@@ -192,6 +218,33 @@ mod simple {
         }
         1000 + reads as u64
     }
+
+    #[inline(never)]
+    pub fn rebuild(sheet: &[u8], disk: usize, plan: &[u8], size: usize, stripe: &mut [u8]) -> u64 {
+        let answer = check(sheet, disk, plan);
+        if answer < 1000 {
+            return answer;
+        }
+        if size == 0 || size > 65536 {
+            return 31;
+        }
+        if stripe.len() != plan[2] as usize * plan[3] as usize * size {
+            return 32;
+        }
+        for step in plan[9..].chunks_exact(3) {
+            let (target, source) = (step[1] as usize * size, step[2] as usize * size);
+            match step[0] {
+                0 => stripe[target..target + size].fill(0),
+                1 => stripe.copy_within(source..source + size, target),
+                _ => {
+                    for i in 0..size {
+                        stripe[target + i] ^= stripe[source + i];
+                    }
+                }
+            }
+        }
+        0
+    }
 }
 
 /// The rows of Liberation with k data disks.
@@ -238,7 +291,7 @@ fn plan_with_20_reads() -> Vec<u8> {
 
 /// Two calls in turn: the median of each, in nanoseconds a call.
 fn interleaved(calls: usize, mut ours: impl FnMut() -> u64, mut theirs: impl FnMut() -> u64) -> (f64, f64) {
-    let mut time = |call: &mut dyn FnMut() -> u64| {
+    let time = |call: &mut dyn FnMut() -> u64| {
         let begun = Instant::now();
         for _ in 0..calls {
             black_box(call());
@@ -284,4 +337,22 @@ fn main() {
     assert_eq!(simple::check(&sheet, 0, &plan), 1020);
     let times = interleaved(1000, || proved::check(&sheet, 0, black_box(&plan)), || simple::check(&sheet, 0, black_box(&plan)));
     print("check, 28 steps", times);
+    for size in [1usize, 64, 4096, 65536] {
+        let contents: Vec<u8> = (0..25 * size).map(|i| (i * 11 + i / 239) as u8).collect();
+        let mut stripe = vec![0u8; 35 * size];
+        assert_eq!(simple::encode(&sheet, size, &contents, &mut stripe), 0);
+        let (mut ours, mut theirs) = (stripe.clone(), stripe.clone());
+        ours[..5 * size].fill(0xff);
+        theirs[..5 * size].fill(0xee);
+        assert_eq!(proved::rebuild(&sheet, 0, &plan, size, &mut ours), 0);
+        assert_eq!(simple::rebuild(&sheet, 0, &plan, size, &mut theirs), 0);
+        assert!(ours == stripe && theirs == stripe, "a rebuild is wrong");
+        let calls = (2_000_000 / (size * 30 + 1000)).max(1);
+        let times = interleaved(
+            calls,
+            || proved::rebuild(&sheet, 0, &plan, size, &mut ours),
+            || simple::rebuild(&sheet, 0, &plan, size, &mut theirs),
+        );
+        print(&format!("rebuild, L {size}"), times);
+    }
 }

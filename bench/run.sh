@@ -1,5 +1,5 @@
 #!/bin/sh
-# Encoding and checking against simple Rust, interleaved in one process: sh bench/run.sh
+# Encoding, checking and rebuilding against simple Rust, interleaved in one process: sh bench/run.sh
 # The library is built in a copy of the crates with one crate more, which exports the calls to C.
 set -eu
 cd "$(dirname "$0")/.."
@@ -28,8 +28,17 @@ pub extern "C" fn navorzim_check(sheet: &[u8], disk: usize, plan: &[u8]) -> u64 
         Checked::Refused(refusal) => refusal.number(),
     }
 }
+
+#[no_mangle]
+pub extern "C" fn navorzim_rebuild(sheet: &[u8], disk: usize, plan: &[u8], size: usize, stripe: &mut [u8]) -> u64 {
+    let verdict = rebuild::rebuild(sheet, disk, plan, size, stripe);
+    match verdict {
+        Verdict::Fine => 0,
+        Verdict::Refused(refusal) => refusal.number(),
+    }
+}
 RATTLE
-echo "exports: refusals encoding checker" >>"$room/crates.txt"
+echo "exports: refusals encoding checker rebuild" >>"$room/crates.txt"
 (cd "$room" && rt staticlib exports >"$room/log" 2>&1) || { cat "$room/log"; exit 1; }
 rustc --edition 2021 -O bench/bench.rs -L "$room/target/staticlib" -l static=exports -o "$room/bench"
 "$room/bench"

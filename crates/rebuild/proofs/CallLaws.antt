@@ -93,13 +93,14 @@ answer-accepted : (verdict : Verdict) (reads count : ℕ) → answerOf verdict r
 answer-accepted Verdicts.Fine reads count e = refl
 answer-accepted (Verdicts.Refused refusal) reads count e = absurd (let differ : _≡_ {A = ℕ} 0 1 = cc in omega arith)
 
--- A sheet that deserves acceptance is in order, and its head says the code's N
 module _ (codeSheet : List ℕ) (disk : ℕ) (planSheet : List ℕ) (count : ℕ) (deserves : DeservesAcceptance codeSheet disk planSheet count) where
+  -- The head of a sheet that deserves acceptance says the code's N
   pub symbols-by-plan : planSymbols planSheet ≡ symbols (reading codeSheet .code)
   symbols-by-plan =
       let fits = deserves .plan-deserves .head-fits in
       ap₂ (λ (n r : ℕ). symbolsOf (record { disks = n; height = r })) (fits .disks) (fits .height)
 
+  -- Such a sheet is in order
   pub sheet-formed : SheetFormed planSheet
   sheet-formed =
       record {

@@ -31,6 +31,7 @@ survives-means-not-lost layout disk s = by-tests (ltb s (symbolsOf layout)) (onD
 
 module _ (code : Code) (within : WithinLimits code) (disk : ℕ) (disk-below : disk < code .layout .disks) (planSheet : List ℕ) (count : ℕ)
     (deserves : Deserves code disk (planIn planSheet) count) (size : ℕ) (before : List ℕ) (whole : length before ≡ symbols code * size) where
+  -- The plan keeps every rule of gf2's acceptance
   accepted : AcceptedFor code disk (stepsOf (planIn planSheet))
   accepted = accepted-if-deserves code within disk disk-below (planIn planSheet) count deserves
 

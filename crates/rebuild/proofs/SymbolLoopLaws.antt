@@ -95,9 +95,11 @@ module _ (L : ℕ) (old : List ℕ) (t : ℕ) (t-fits : (t + 1) * L ≤ length o
     abbrev pub summed : List ℕ
     summed = xorBytes (symbol L old t) (symbol L old s)
 
+    -- Both symbols have one length
     same-length : length (symbol L old t) ≡ length (symbol L old s)
     same-length = length-symbol L old t t-fits ∙ sym (length-symbol L old s s-fits)
 
+    -- The sum has L bytes
     length-summed : length summed ≡ L
     length-summed = length-xorBytes (symbol L old t) (symbol L old s) same-length ∙ length-symbol L old t t-fits
 

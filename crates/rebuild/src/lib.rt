@@ -1,6 +1,5 @@
 // Rebuild: the lost strip from the survivors, by a plan that is checked on every call.
 ghost use mathlib.Core.Path.{_≡_};
-ghost use Prim.Native.Nat.{ℕ};
 ghost use lib.ListN.{length};
 ghost use Rattle.refusals.specs.Orders.{firstOf, ifFine};
 ghost use Rattle.refusals.specs.declared.Verdict.the-variants.{Fine};
@@ -23,16 +22,14 @@ use sheets::byte_at;
 fn length_test(symbols: usize, size: usize, stripe_bytes: usize) -> Verdict
     ensures { λ r. ⌜ r ≡ firstOf (rebuildFaults symbols size «stripe_bytes») ⌝ }
 {
+    let whole = is_length(stripe_bytes, symbols, size);
     Verdict::Fine
         .or_if(size == 0, Refusal::SymbolLength)
         .or_if(65536 < size, Refusal::SymbolLength)
-        .or_if(
-            !is_length(stripe_bytes, symbols, size),
-            Refusal::StripeLength,
-        )
+        .or_if(!whole, Refusal::StripeLength)
 }
 
-// The work of an accepted plan. Its head says the layout, so that the code sheet is not read again.
+// The work of an accepted plan. Its head says the layout, so that the code sheet is not read again; its length says the number of steps.
 fn rebuild_accepted(plan: &[u8], size: usize, stripe: &mut [u8]) -> Verdict
     requires { ⌜ SheetFormed (now plan) ⌝ }
     ensures answer { λ r. ⌜ r ≡ firstOf (rebuildFaults (planSymbols (now (plan .entry))) size (length (now (stripe .entry)))) ⌝ }

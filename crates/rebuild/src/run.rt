@@ -1,10 +1,10 @@
 // The steps of an accepted plan sheet, run on the lent stripe.
 ghost use mathlib.Core.Path.{_≡_};
-ghost use mathlib.Core.List.{map, List·Memᴰ};
-ghost use Prim.Native.Nat.{_+_, _*_, _≤_};
+ghost use mathlib.Core.List.{map};
+ghost use Prim.Native.Nat.{_≤_};
 ghost use lib.ListN.{length, drop};
 ghost use Rattle.gf2.specs.Stripes.{stepSymbol, putSymbol, runOnStripe};
-ghost use Rattle.checker.specs.Plans.{SheetStep, stepOf, sheetSteps};
+ghost use Rattle.checker.specs.Plans.{stepOf, sheetSteps};
 ghost use Rattle.rebuild.specs.Rebuild.{StepFits, EachFits};
 use super::symbols::add;
 use super::symbols::clear;
