@@ -16,8 +16,9 @@ def fitting_size(plan: Plan) -> int:
 
 def add_both(vectors: Vectors, plan: Plan, size: int) -> None:
     """On a valid stripe with its lost strip ruined, and on survivors that belong to none."""
-    vectors.rebuild("rebuild, valid stripe", plan.code_sheet, plan.disk, plan.sheet(), size, valid=True)
-    vectors.rebuild("rebuild, other stripe", plan.code_sheet, plan.disk, plan.sheet(), size)
+    ruin = chosen([None, 0, 255, 1])
+    vectors.rebuild("rebuild, valid stripe", plan.code_sheet, plan.disk, plan.sheet(), size, valid=True, ruin=ruin)
+    vectors.rebuild("rebuild, other stripe", plan.code_sheet, plan.disk, plan.sheet(), size, ruin=ruin)
 
 
 def add_rebuilds(vectors: Vectors) -> None:
@@ -28,6 +29,8 @@ def add_rebuilds(vectors: Vectors) -> None:
             add_both(vectors, plan, fitting_size(plan))
     for size in SIZES[:-1]:
         add_both(vectors, SQUARE_PLAN, size)
+    for ruin in (None, 0, 255, 0x55):
+        vectors.rebuild("rebuild, valid stripe", SQUARE_SHEET, 0, P2, 9, valid=True, ruin=ruin)
     for plan in (SQUARE_PLAN, chained_plan(liberation(3, 3), 1)):
         for start in idle_starts(plan):
             add_both(vectors, plan.with_steps(start + plan.steps), 5)

@@ -102,10 +102,19 @@ class Vectors:
         self.add(kind, 5, [disk, len(sheet)], sheet + plan, line)
 
     def rebuild(
-        self, kind: str, sheet: bytes, disk: int, plan: bytes, size: int, *, valid: bool = False, length: Optional[int] = None
+        self,
+        kind: str,
+        sheet: bytes,
+        disk: int,
+        plan: bytes,
+        size: int,
+        *,
+        valid: bool = False,
+        length: Optional[int] = None,
+        ruin: Optional[int] = None,
     ) -> None:
         """On a stripe of the length that the sheet asks for, or another one. A valid stripe is encoded from data first;
-        then the lost strip, or what of it there is, is filled anew."""
+        then the lost strip, or what of it there is, is ruined: with one byte throughout, or from a seed."""
         seed = self.seed()
         code = second.read_code(sheet)
         known = not isinstance(code, Refusal) and disk < code.disks and size <= ROOM
@@ -116,12 +125,13 @@ class Vectors:
             stripe = second.encoding(code, size, filled(data_length, seed + 1))
         start = min(disk * code.height * size, stripe_length) if known else 0
         end = min(start + code.height * size, stripe_length) if known else 0
-        before = stripe[:start] + filled(end - start, seed + 2) + stripe[end:]
+        ruined = filled(end - start, seed + 2) if ruin is None else bytes([ruin]) * (end - start)
+        before = stripe[:start] + ruined + stripe[end:]
         refusal, after = second_rebuild.rebuild(sheet, disk, plan, size, before)
         line = refused(refusal) if refusal else "fine"
         if valid and not refusal:
             assert after == stripe, kind
-        numbers = [disk, size, stripe_length, seed, data_length, seed + 1, start, end, seed + 2, len(sheet)]
+        numbers = [disk, size, stripe_length, seed, data_length, seed + 1, start, end, seed + 2 if ruin is None else ruin, len(sheet)]
         self.add(kind, 7, numbers, sheet + plan, f"{line} digest {digest(after)}")
 
     def desk(self, kind: str, given: bytes) -> None:

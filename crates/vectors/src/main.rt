@@ -11,7 +11,7 @@
 //   call 5, check: disk, code sheet length; the code sheet, the plan sheet
 //   call 6, the desk: its whole input
 //   call 7, rebuild: disk, L, stripe length, stripe seed, data length (0: no data is encoded first), data seed, start and end of
-//     the strip that is ruined, its seed, code sheet length; the code sheet, the plan sheet
+//     the strip that is ruined, its seed (below 256: that byte throughout), code sheet length; the code sheet, the plan sheet
 ghost use mathlib.Core.Path.{_≡_};
 ghost use Prim.Native.Nat.{_≤_, _<_};
 ghost use lib.ListN.{length};
@@ -318,12 +318,27 @@ fn desk(record: &[u8]) {
     print_on_one_line(front_of(&out, length));
 }
 
-// Fills a part of a stripe from a seed, where there is such a part.
+// Makes every byte of a buffer the same.
+fn flood(buffer: &mut [u8], byte: usize)
+    requires { ⌜ byte < 256 ⌝ }
+{
+    let mut i = 0;
+    while i < buffer.len() {
+        buffer[i] = byte as u8;
+        i += 1;
+    }
+}
+
+// Ruins a part of a stripe, where there is such a part: with one byte throughout, for a seed below 256, or from the seed.
 fn ruin(stripe: &mut [u8], start: usize, end: usize, seed: usize) {
     if start > end {
         return;
     }
     if end > stripe.len() {
+        return;
+    }
+    if seed < 256 {
+        flood(&mut stripe[start..end], seed);
         return;
     }
     fill(&mut stripe[start..end], seed);
