@@ -3,11 +3,11 @@ ghost use mathlib.Core.Path.{_≡_};
 ghost use Prim.Native.Nat.{ℕ, _+_, _*_, _≤_, _<_};
 ghost use lib.ListN.{length, getD, take, drop};
 ghost use Rattle.codes.specs.Codes.{rowsOf, noCode, WithinLimits};
-ghost use Rattle.refusals.specs.Orders.{firstOf};
+ghost use Rattle.refusals.specs.Orders.{firstOf, andThen};
 ghost use Rattle.refusals.specs.declared.Verdict.the-variants.{Fine};
 ghost use Rattle.sheets.specs.Bytes.{lowFirst};
 ghost use Rattle.sheets.specs.CodeSheets.{rowIn};
-ghost use Rattle.sheets.specs.CodeReading.{headFaults, firstStray, reading};
+ghost use Rattle.sheets.specs.CodeReading.{limitFaults, headFaults, firstStray, reading};
 use codes::Code;
 use codes::Layout;
 use gf2::BitSet;
@@ -30,6 +30,21 @@ pub fn byte_at(sheet: &[u8], at: usize) -> usize
     0
 }
 
+// The limits of an array, behind the verdict so far.
+fn limit_test(verdict: Verdict, disks: usize, height: usize, data_symbols: usize) -> Verdict
+    requires { ⌜ (disks < 256) × (height < 256) ⌝ }
+    ensures { λ r. ⌜ r ≡ andThen verdict (limitFaults disks height data_symbols) ⌝ }
+{
+    verdict
+        .or_if(disks < 2, Refusal::CodeBeyondLimit)
+        .or_if(64 < disks, Refusal::CodeBeyondLimit)
+        .or_if(height < 1, Refusal::CodeBeyondLimit)
+        .or_if(32 < height, Refusal::CodeBeyondLimit)
+        .or_if(64 < disks * height, Refusal::CodeBeyondLimit)
+        .or_if(data_symbols < 1, Refusal::CodeBeyondLimit)
+        .or_if(64 < data_symbols, Refusal::CodeBeyondLimit)
+}
+
 // The order for a code sheet up to its rows.
 fn head_verdict(
     size: usize,
@@ -43,17 +58,11 @@ fn head_verdict(
     requires { ⌜ (disks < 256) × (height < 256) × (symbols < 256) ⌝ }
     ensures { λ r. ⌜ r ≡ firstOf (headFaults size count edition disks height data_symbols symbols) ⌝ }
 {
-    Verdict::Fine
+    let first = Verdict::Fine
         .or_if(size < 6, Refusal::CodeSheetTooShort)
         .or_if(count != 4, Refusal::CodeSheetCount)
-        .or_if(edition != 1, Refusal::CodeSheetEdition)
-        .or_if(disks < 2, Refusal::CodeBeyondLimit)
-        .or_if(64 < disks, Refusal::CodeBeyondLimit)
-        .or_if(height < 1, Refusal::CodeBeyondLimit)
-        .or_if(32 < height, Refusal::CodeBeyondLimit)
-        .or_if(64 < disks * height, Refusal::CodeBeyondLimit)
-        .or_if(data_symbols < 1, Refusal::CodeBeyondLimit)
-        .or_if(64 < data_symbols, Refusal::CodeBeyondLimit)
+        .or_if(edition != 1, Refusal::CodeSheetEdition);
+    limit_test(first, disks, height, data_symbols)
         .or_if(symbols != disks * height, Refusal::CodeSheetCount)
         .or_if(size < 6 + 8 * symbols, Refusal::CodeSheetTooShort)
         .or_if(6 + 8 * symbols < size, Refusal::CodeSheetTooLong)
@@ -79,19 +88,24 @@ fn wide(byte: u8) -> u64
     byte as u64
 }
 
+// A number of 4 bytes, low byte first.
+fn half_row_at(sheet: &[u8], at: usize) -> u64
+    requires { ⌜ at + 4 ≤ length (now sheet) ⌝ }
+    ensures { λ r. ⌜ (r ≡ lowFirst (take 4 (drop at (now (sheet .entry))))) × (r < 4294967296) ⌝ }
+{
+    wide(sheet[at])
+        + 256 * wide(sheet[at + 1])
+        + 65536 * wide(sheet[at + 2])
+        + 16777216 * wide(sheet[at + 3])
+}
+
 // A row of 8 bytes, low byte first.
 fn row_at(sheet: &[u8], at: usize) -> BitSet
     requires { ⌜ at + 8 ≤ length (now sheet) ⌝ }
     ensures { λ r. ⌜ r ≡ lowFirst (take 8 (drop at (now (sheet .entry)))) ⌝ }
 {
-    let low = wide(sheet[at])
-        + 256 * wide(sheet[at + 1])
-        + 65536 * wide(sheet[at + 2])
-        + 16777216 * wide(sheet[at + 3]);
-    let high = wide(sheet[at + 4])
-        + 256 * wide(sheet[at + 5])
-        + 65536 * wide(sheet[at + 6])
-        + 16777216 * wide(sheet[at + 7]);
+    let low = half_row_at(sheet, at);
+    let high = half_row_at(sheet, at + 4);
     low + 4294967296 * high
 }
 

@@ -7,31 +7,32 @@ use Rattle.codes.specs.declared.Code.{Code}
 use Rattle.refusals.specs.declared.Verdict.{Verdict}
 use Rattle.refusals.specs.declared.Verdict.the-variants.{Refused}
 use Rattle.refusals.specs.declared.Refusal.the-variants.{StrayBit}
-use Rattle.sheets.proofs.ReadingLaws.{headOf, is-headVerdict, reading-head-refused, reading-stray, reading-fine, reading-kept, sheet-within, SheetWithin, strayOf, stray-as-read, code-as-read}
+use Rattle.sheets.proofs.ReadingLaws.{headOf, head-as-read, reading-head-refused, reading-stray, reading-fine, reading-kept, sheet-within, SheetWithin, strayOf, stray-as-read, code-as-read}
 use borrow.Author.Needs.{needs}
 use Rattle.sheets.proofs.read_code.Statement.{statement}
 use Rattle.sheets.proofs.read_code.Tie as tie
 
 byte-at-requires : tie.Need-byte-at-requires
-byte-at-requires c κs = search needs
+byte-at-requires c κs = tt
 
 byte-at-requires-2 : tie.Need-byte-at-requires-2
-byte-at-requires-2 c κs = search needs
+byte-at-requires-2 c κs = tt
 
 byte-at-requires-3 : tie.Need-byte-at-requires-3
-byte-at-requires-3 c κs = search needs
+byte-at-requires-3 c κs = tt
 
 byte-at-requires-4 : tie.Need-byte-at-requires-4
-byte-at-requires-4 c κs = search needs
+byte-at-requires-4 c κs = tt
 
 byte-at-requires-5 : tie.Need-byte-at-requires-5
-byte-at-requires-5 c κs = search needs
+byte-at-requires-5 c κs = tt
 
 byte-at-requires-6 : tie.Need-byte-at-requires-6
-byte-at-requires-6 c κs = search needs
+byte-at-requires-6 c κs = tt
 
 head-verdict-requires : tie.Need-head-verdict-requires
-head-verdict-requires c κs = search needs
+head-verdict-requires c κs =
+    (c .before .before .before .before .before .byte-at .ensures .1, c .before .before .before .before .byte-at2 .ensures .1, c .before .before .byte-at4 .ensures .1)
 
 enum-told : tie.Need-enum-told
 enum-told c = search needs
@@ -40,7 +41,7 @@ enum-told-2 : tie.Need-enum-told-2
 enum-told-2 c = search needs
 
 no-code-requires : tie.Need-no-code-requires
-no-code-requires c κs = search needs
+no-code-requires c κs = tt
 
 -- The head's verdict is that of the sheet's own bytes
 head-is : (c : tie.After-head-verdict) → c .head-verdict .result ≡ headOf (c .before .before .before .before .before .before .before .before .args .sheet .now)
@@ -52,9 +53,8 @@ head-is c =
     let height = c .before .before .before .before .before .byte-at2 in
     let data-symbols = c .before .before .before .before .byte-at3 in
     let symbols = c .before .before .before .byte-at4 in
-    is-headVerdict (length sheet) (count .result) (edition .result) (disks .result) (height .result) (data-symbols .result) (symbols .result)
+    head-as-read sheet (count .ensures .0) (edition .ensures .0) (disks .ensures .0) (height .ensures .0) (data-symbols .ensures .0) (symbols .ensures .0)
     (c .head-verdict .ensures)
-    ∙ cc (count .ensures .0, edition .ensures .0, disks .ensures .0, height .ensures .0, data-symbols .ensures .0, symbols .ensures .0)
 
 returns : tie.Need-returns
 returns c =
@@ -89,7 +89,7 @@ mul-if1 : tie.Need-mul-if1
 mul-if1 c = search needs
 
 no-code-requires-2 : tie.Need-no-code-requires-2
-no-code-requires-2 c κs = search needs
+no-code-requires-2 c κs = tt
 
 returns-2 : tie.Need-returns-2
 returns-2 c =
