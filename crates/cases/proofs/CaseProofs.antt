@@ -16,14 +16,15 @@ use Rattle.codes.specs.Layouts.{symbolsOf, firstSymbol, heightOf, onDisk}
 use Rattle.codes.specs.declared.Code.{Code}
 use Rattle.codes.proofs.RowLaws.{length-rowsOf, getD-rowsOf-behind, rowsOf-below}
 use Rattle.encoding.specs.Encoding.{encodedStripe, encodeVerdict}
-use Rattle.families.specs.Families.{familyCode, familyRow, diskRow, unit, sumOver, extraEntry, diagonalEntry}
+use Rattle.family_codes.specs.Families.{familyCode, familyRow, diskRow, unit, sumOver, extraEntry, diagonalEntry}
 use Rattle.gf2.proofs.Booleans.{and-left}
 use Rattle.gf2.specs.BitSets.{has, with, overlap, count, countIn}
 use Rattle.gf2.specs.Lists.{tabulate, firstFrom}
 use Rattle.gf2.specs.Plans.{run, filledAfter}
 use Rattle.gf2.specs.Stripes.{encoding, encodedSymbol, xorBytes, putSymbol, runOnStripe}
-use Rattle.lines.specs.Decimals.{decimal, digits}
-use Rattle.lines.specs.Lines.{deskText, codeSheetIn, planSheetIn, sheetLengthIn, labelled, codeLine, diskLine, acceptedLines}
+use Rattle.lines.specs.Lines.{deskText, codeSheetIn, planSheetIn, sheetLengthIn}
+use Rattle.texts.specs.Decimals.{decimal, digits}
+use Rattle.texts.specs.Lines.{labelled, codeLine, diskLine, acceptedLines}
 use Rattle.rebuild.specs.Rebuild.{stripeAfter, rebuildVerdict}
 use Rattle.refusals.specs.Orders.{orIf}
 use Rattle.refusals.specs.declared.Verdict.the-variants.{Fine}

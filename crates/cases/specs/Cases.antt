@@ -11,9 +11,9 @@ use Rattle.checker.specs.declared.Checked.{Checked}
 use Rattle.codes.specs.Codes.{matrix}
 use Rattle.codes.specs.declared.Code.{Code}
 use Rattle.encoding.specs.Encoding.{encodedStripe}
-use Rattle.families.specs.Families.{familyCode}
-use Rattle.families.specs.declared.Family.{Family}
-use Rattle.families.specs.declared.Family.the-variants.{Liberation, RowDiagonal}
+use Rattle.family_codes.specs.Families.{familyCode}
+use Rattle.family_codes.specs.declared.Family.{Family}
+use Rattle.family_codes.specs.declared.Family.the-variants.{Liberation, RowDiagonal}
 use Rattle.gf2.specs.BitSets.{with}
 use Rattle.gf2.specs.Stripes.{symbol, patternStripe}
 use Rattle.lines.specs.Lines.{deskText}

@@ -15,11 +15,11 @@ use Rattle.refusals.specs.declared.Refusal.the-variants.{NotInFamily, SheetBuff
 use Rattle.refusals.specs.declared.Verdict.the-variants as Verdicts
 use Rattle.sheets.specs.CodeReading.{reading}
 use Rattle.sheets.specs.CodeSheets.{sheetLength}
-use Rattle.families.specs.declared.Family.{Family}
+use Rattle.family_codes.specs.declared.Family.{Family}
 use Rattle.families.specs.declared.Written.the-variants.{Sheet, Refused}
-use Rattle.families.specs.Families.{listed, familyLayout, familyCode}
+use Rattle.family_codes.specs.Families.{listed, familyLayout, familyCode}
 use Rattle.families.specs.FamilySheets.{familySheet, familyVerdict, familyAnswer, familyBuffer, ReadsBack}
-use Rattle.families.proofs.LimitLaws.{familyCode-within-limits}
+use Rattle.family_codes.proofs.LimitLaws.{familyCode-within-limits}
 use Rattle.sheets.proofs.SheetLaws.{length-codeSheet}
 use Rattle.sheets.proofs.ReadBackLaws.{reading-codeSheet}
 

@@ -1,4 +1,2 @@
-pub mod FamilyLaws
 pub mod WriteLaws
-pub mod LimitLaws
 pub mod AnswerLaws

@@ -11,10 +11,10 @@ use Rattle.refusals.specs.declared.Verdict.{Verdict}
 use Rattle.refusals.specs.declared.Verdict.the-variants as Verdicts
 use Rattle.sheets.specs.CodeReading.{reading}
 use Rattle.sheets.specs.CodeSheets.{codeSheet}
-use Rattle.families.specs.declared.Family.{Family}
+use Rattle.family_codes.specs.declared.Family.{Family}
 use Rattle.families.specs.declared.Written.{Written}
 use Rattle.families.specs.declared.Written.the-variants.{Sheet, Refused}
-use Rattle.families.specs.Families.{familyCode, listed}
+use Rattle.family_codes.specs.Families.{familyCode, listed}
 
 -- The sheet to be written
 abbrev pub familySheet : Family → List ℕ

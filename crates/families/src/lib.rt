@@ -1,25 +1,17 @@
-// Families of codes that can be asked for by name: a family's code sheet, written into a lent buffer.
+// A family's code sheet, written into a lent buffer.
 ghost use mathlib.Core.Path.{_≡_};
 ghost use mathlib.Core.Bool.{true};
 ghost use lib.ListN.{length};
-ghost use Rattle.families.specs.Families.{listed};
+ghost use Rattle.family_codes.specs.Families.{listed};
 ghost use Rattle.families.specs.FamilySheets.{familySheet, familyVerdict, familyAnswer, familyBuffer, ReadsBack};
+pub use family_codes::Family;
+use family_codes::code::code_of;
+use family_codes::listed::is_listed;
+use family_codes::listed::layout_of;
 use refusals::Refusal;
 use refusals::Verdict;
 
-mod listed; // listed.rt: the parameters that refusal 36 lets through, and what follows from them
-mod rows; // rows.rt: identity rows and row parity
-mod liberation; // liberation.rt: Liberation's parities
-mod row_diagonal; // row_diagonal.rt: row-diagonal's parities
-mod code; // code.rt: a family's generator matrix
 mod write; // write.rt: the bytes of a code sheet
-
-// A family and its parameters, as document 01 lists them.
-pub enum Family {
-    SingleParity { data_disks: usize, rows: usize },
-    Liberation { w: usize, data_disks: usize },
-    RowDiagonal { p: usize },
-}
 
 // The length of the sheet that was written, or why none was.
 pub enum Written {
@@ -32,7 +24,7 @@ fn sheet_length_of(family: Family) -> usize
     requires { ⌜ listed family ≡ true ⌝ }
     ensures { λ r. ⌜ r ≡ length (familySheet family) ⌝ }
 {
-    let layout = listed::layout_of(family);
+    let layout = layout_of(family);
     6 + 8 * layout.symbols()
 }
 
@@ -40,7 +32,7 @@ fn sheet_length_of(family: Family) -> usize
 fn verdict_on(family: Family, buffer_length: usize) -> Verdict
     ensures { λ r. ⌜ r ≡ familyVerdict family «buffer_length» ⌝ }
 {
-    if !listed::is_listed(family) {
+    if !is_listed(family) {
         return Verdict::Refused(Refusal::NotInFamily);
     }
     Verdict::Fine.or_if(
@@ -58,7 +50,7 @@ pub fn write_family(family: Family, buffer: &mut [u8]) -> Written
     let verdict = verdict_on(family, buffer.len());
     match verdict {
         Verdict::Fine => {
-            write::write_code(code::code_of(family), buffer);
+            write::write_code(code_of(family), buffer);
             Written::Sheet {
                 length: sheet_length_of(family),
             }

@@ -13,10 +13,11 @@ use lib.Seq.{paste-suc, getD-take, take-length, length-take-le}
 use Rattle.checker.specs.Check.{checked}
 use Rattle.checker.specs.declared.Checked.{Checked}
 use Rattle.codes.specs.declared.Code.{Code}
-use Rattle.lines.specs.Lines.{codeSheetIn, planSheetIn, diskIn, codeLine, refusalLine, linesOf, deskText, writtenLength, writtenOver}
-use Rattle.lines.specs.Texts.{textOf, Holds}
-use Rattle.lines.specs.declared.text.Text.{Text}
-use Rattle.lines.proofs.TextLaws.{length-textOf}
+use Rattle.lines.specs.Lines.{codeSheetIn, planSheetIn, diskIn, linesOf, deskText, writtenLength, writtenOver}
+use Rattle.texts.specs.Lines.{codeLine, refusalLine}
+use Rattle.texts.specs.Texts.{textOf, Holds}
+use Rattle.texts.specs.declared.Text.{Text}
+use Rattle.texts.proofs.TextLaws.{length-textOf}
 use Rattle.refusals.specs.Refusals.{numberOf, placeOf}
 use Rattle.refusals.specs.declared.Refusal.{Refusal}
 use Rattle.refusals.specs.declared.Verdict.{Verdict}

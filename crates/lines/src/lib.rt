@@ -2,13 +2,11 @@
 ghost use mathlib.Core.Path.{_≡_};
 ghost use Prim.Native.Nat.{_≤_, _<_};
 ghost use lib.ListN.{length};
-ghost use Rattle.lines.specs.Lines.{sheetLengthIn, codeSheetIn, planSheetIn, refusalLine, answerLines, linesOf, deskText, writtenLength, writtenOver};
-ghost use Rattle.lines.specs.Texts.{textOf, HasRoom, Extended, Holds};
+ghost use Rattle.lines.specs.Lines.{sheetLengthIn, codeSheetIn, planSheetIn, answerLines, linesOf, deskText, writtenLength, writtenOver};
 ghost use Rattle.refusals.specs.Refusals.{numberOf, placeOf};
 ghost use Rattle.refusals.specs.declared.Verdict.the-variants.{Fine};
-
-mod text;
-
+ghost use Rattle.texts.specs.Lines.{refusalLine};
+ghost use Rattle.texts.specs.Texts.{textOf, HasRoom, Extended, Holds};
 use checker::Checked;
 use checker::check;
 use codes::Code;
@@ -16,7 +14,8 @@ use refusals::Refusal;
 use refusals::Verdict;
 use sheets::byte_at;
 use sheets::read_code;
-use text::Text;
+use texts::Text;
+use texts::push_refusal;
 
 // The code sheet's length, low byte first.
 fn sheet_length(input: &[u8]) -> usize
@@ -48,14 +47,6 @@ fn plan_sheet(input: &[u8]) -> &[u8]
         return &input[0..0];
     }
     &input[start..]
-}
-
-// The line of a refusal: its number and its place.
-fn push_refusal(text: Text, refusal: Refusal) -> Text
-    requires { ⌜ HasRoom text 53 ⌝ }
-    ensures { λ r. ⌜ Extended text 53 (refusalLine (numberOf refusal) (placeOf refusal)) r ⌝ }
-{
-    text.push_refusal(refusal.number() as usize, refusal.place())
 }
 
 // The lines of what the check answers.

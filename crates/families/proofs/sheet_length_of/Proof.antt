@@ -4,8 +4,8 @@ use native.Mathlib.Omega.{arith}
 use borrow.Author.Needs.{needs}
 use Rattle.codes.specs.Layouts.{symbolsOf}
 use Rattle.codes.specs.declared.Layout.{Layout}
-use Rattle.families.specs.Families.{familyLayout}
-use Rattle.families.proofs.FamilyLaws.{listed-bounds, symbols-to}
+use Rattle.family_codes.specs.Families.{familyLayout}
+use Rattle.family_codes.proofs.FamilyLaws.{listed-bounds, symbols-to}
 use Rattle.families.proofs.AnswerLaws.{length-familySheet}
 use Rattle.families.proofs.sheet_length_of.Statement.{statement}
 use Rattle.families.proofs.sheet_length_of.Tie as tie

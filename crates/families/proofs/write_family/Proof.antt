@@ -7,7 +7,7 @@ use borrow.Author.Needs.{needs}
 use Rattle.codes.specs.Codes.{WithinLimits}
 use Rattle.codes.specs.declared.Code.{Code}
 use Rattle.sheets.specs.CodeSheets.{codeSheet}
-use Rattle.families.proofs.LimitLaws.{familyCode-within-limits}
+use Rattle.family_codes.proofs.LimitLaws.{familyCode-within-limits}
 use Rattle.families.proofs.AnswerLaws.{fine-so-listed, fine-so-room, refused-call, written-call}
 use Rattle.families.proofs.write_family.Statement.{statement}
 use Rattle.families.proofs.write_family.Tie as tie

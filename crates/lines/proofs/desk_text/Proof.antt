@@ -1,6 +1,6 @@
 -- `desk_text` meets its contract: the refusal line alone, or the report. Assumes nothing.
 use Rattle.lines.proofs.LineLaws.{text-if-refused, text-if-fine}
-use Rattle.lines.proofs.TextLaws.{holds-as}
+use Rattle.texts.proofs.TextLaws.{holds-as}
 use borrow.Author.Needs.{needs}
 use Rattle.lines.proofs.desk_text.Statement.{statement}
 use Rattle.lines.proofs.desk_text.Tie as tie

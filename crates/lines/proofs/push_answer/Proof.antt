@@ -2,7 +2,7 @@
 use mathlib.Core.Path.{sym, ap}
 use native.Mathlib.Omega.{arith}
 use Rattle.lines.specs.Lines.{answerLines}
-use Rattle.lines.proofs.TextLaws.{extended-as}
+use Rattle.texts.proofs.TextLaws.{extended-as}
 use borrow.Author.Needs.{needs}
 use Rattle.lines.proofs.push_answer.Statement.{statement}
 use Rattle.lines.proofs.push_answer.Tie as tie

@@ -1,6 +1,6 @@
 -- `refusal_text` meets its contract: the line behind no text. Assumes nothing.
 use native.Mathlib.Omega.{arith}
-use Rattle.lines.proofs.TextLaws.{holds-alone}
+use Rattle.texts.proofs.TextLaws.{holds-alone}
 use borrow.Author.Needs.{needs}
 use Rattle.lines.proofs.refusal_text.Statement.{statement}
 use Rattle.lines.proofs.refusal_text.Tie as tie

@@ -1,6 +1,6 @@
 -- `report` meets its contract: the lines in their order, behind no text. Assumes nothing.
 use native.Mathlib.Omega.{arith}
-use Rattle.lines.proofs.TextLaws.{extended-twice, holds-alone}
+use Rattle.texts.proofs.TextLaws.{extended-twice, holds-alone}
 use borrow.Author.Needs.{needs}
 use Rattle.lines.proofs.report.Statement.{statement}
 use Rattle.lines.proofs.report.Tie as tie

@@ -1,0 +1,2 @@
+pub mod FamilyLaws
+pub mod LimitLaws

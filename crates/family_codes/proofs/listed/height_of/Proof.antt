@@ -1,0 +1,42 @@
+-- `listed::height_of` meets its contract, family by family. Assumes nothing.
+use mathlib.Core.Path.{sym, ap, _∙_}
+use native.Mathlib.Omega.{arith}
+use borrow.Author.Needs.{needs}
+use Rattle.family_codes.specs.Families.{listed, familyHeight}
+use Rattle.family_codes.proofs.FamilyLaws.{row-diagonal-bounds}
+use Rattle.family_codes.proofs.listed.height_of.Statement.{statement}
+use Rattle.family_codes.proofs.listed.height_of.Tie as tie
+
+enum-known-family : tie.Need-enum-known-family
+enum-known-family c = search needs
+
+enum-known-family-2 : tie.Need-enum-known-family-2
+enum-known-family-2 c = search needs
+
+enum-known-family-3 : tie.Need-enum-known-family-3
+enum-known-family-3 c = search needs
+
+sub-result : tie.Need-sub-result
+sub-result c =
+    omega (arith, row-diagonal-bounds _ (sym (ap listed (c .before .family3 .given .1)) ∙ c .before .before .before .pre))
+
+returns : tie.Need-returns
+returns c = search needs
+
+returns-2 : tie.Need-returns-2
+returns-2 c = search needs
+
+returns-3 : tie.Need-returns-3
+returns-3 c = sym (ap familyHeight (c .before .family3 .given .1))
+
+pub height-of-spec : {M : Type 1} → statement M
+height-of-spec =
+    tie.close
+    (tie.spec
+    enum-known-family
+    enum-known-family-2
+    enum-known-family-3
+    sub-result
+    returns
+    returns-2
+    returns-3)

@@ -1,0 +1,48 @@
+-- `listed::is_listed` meets its contract, family by family. Assumes nothing.
+use mathlib.Core.Path.{sym, ap, _∙_}
+use borrow.Author.Needs.{needs}
+use Rattle.family_codes.specs.Families.{listed}
+use Rattle.family_codes.proofs.listed.is_listed.Statement.{statement}
+use Rattle.family_codes.proofs.listed.is_listed.Tie as tie
+
+enum-known-family : tie.Need-enum-known-family
+enum-known-family c = search needs
+
+single-parity-listed-requires : tie.Need-single-parity-listed-requires
+single-parity-listed-requires c κs = search needs
+
+enum-known-family-2 : tie.Need-enum-known-family-2
+enum-known-family-2 c = search needs
+
+liberation-listed-requires : tie.Need-liberation-listed-requires
+liberation-listed-requires c κs = search needs
+
+enum-known-family-3 : tie.Need-enum-known-family-3
+enum-known-family-3 c = search needs
+
+three-five-or-seven-requires : tie.Need-three-five-or-seven-requires
+three-five-or-seven-requires c κs = search needs
+
+returns : tie.Need-returns
+returns c = c .single-parity-listed .ensures ∙ sym (ap listed (c .before .before .family .given .1))
+
+returns-2 : tie.Need-returns-2
+returns-2 c = c .liberation-listed .ensures ∙ sym (ap listed (c .before .before .family2 .given .1))
+
+returns-3 : tie.Need-returns-3
+unfolding listed
+returns-3 c = c .three-five-or-seven .ensures ∙ sym (ap listed (c .before .before .family3 .given .1))
+
+pub is-listed-spec : {M : Type 1} → statement M
+is-listed-spec =
+    tie.close
+    (tie.spec
+    enum-known-family
+    single-parity-listed-requires
+    enum-known-family-2
+    liberation-listed-requires
+    enum-known-family-3
+    three-five-or-seven-requires
+    returns
+    returns-2
+    returns-3)

@@ -1,0 +1,25 @@
+-- `Text::push_accepted` meets its contract. Assumes nothing.
+use mathlib.Core.Path.{refl}
+use native.Mathlib.Omega.{arith}
+use Rattle.texts.specs.Lines.{acceptedLines}
+use Rattle.texts.proofs.TextLaws.{extended-twice, extended-as}
+use borrow.Author.Needs.{needs}
+use Rattle.texts.proofs.Text.push_accepted.Statement.{statement}
+use Rattle.texts.proofs.Text.push_accepted.Tie as tie
+
+slice-aggregate-push-labelled : tie.Need-slice-aggregate-push-labelled
+slice-aggregate-push-labelled c = search needs
+
+push-labelled-requires : tie.Need-push-labelled-requires
+push-labelled-requires c κs = search needs
+
+push-requires : tie.Need-push-requires
+push-requires c κs = search needs
+
+returns : tie.Need-returns
+unfolding acceptedLines
+returns c = extended-as 36 _ (omega arith) refl (extended-twice (c .before .push-labelled .ensures) (c .push .ensures))
+
+pub push-accepted-spec : {M : Type 1} → statement M
+push-accepted-spec =
+    tie.close (tie.spec slice-aggregate-push-labelled push-labelled-requires push-requires returns)
