@@ -1,40 +1,10 @@
-// A plan sheet read and judged: demand 2.
-ghost use mathlib.Core.Logic.{_↔_};
-ghost use mathlib.Core.Path.{_≡_};
-ghost use Prim.Native.Nat.{ℕ};
-ghost use Rattle.checker.specs.Check.{checked};
-ghost use Rattle.checker.specs.Demand2.{DeservesAcceptance};
-ghost use Rattle.checker.specs.declared.Checked.the-variants.{Accepted};
+// What a plan sheet is held to: demand 2. The specifications and laws are here, the call stands above in `checking`.
+pub mod steps;
 
-mod body;
-mod head;
-mod steps;
-
-use body::judge;
-use head::head_test;
 use refusals::Refusal;
-use refusals::Verdict;
-use sheets::read_code;
 
 // What checking answers: accepted, with the number of distinct surviving symbols read, or the first refusal.
 pub enum Checked {
     Accepted { reads: usize },
     Refused(Refusal),
-}
-
-// Judges a plan sheet for a code sheet and a failed disk, each of any bytes: code sheet, 7, plan. It answers and changes nothing.
-pub fn check(sheet: &[u8], disk: usize, plan: &[u8]) -> Checked
-    ensures answer { λ r. ⌜ r ≡ checked (now (sheet .entry)) disk (now (plan .entry)) ⌝ }
-    ensures demand2 { λ r. ⌜ ((count : ℕ) → (r ≡ Accepted count) ↔ DeservesAcceptance (now (sheet .entry)) disk (now (plan .entry)) count) ⌝ }
-{
-    let reading = read_code(sheet);
-    let read = reading.verdict;
-    let code = reading.code;
-    let layout = code.layout;
-    let data_symbols = code.data_symbols;
-    let head = head_test(read, layout, data_symbols, disk, plan);
-    let Verdict::Refused(refusal) = head else {
-        return judge(code, disk, plan);
-    };
-    Checked::Refused(refusal)
 }

@@ -10,7 +10,7 @@ mod run;
 mod symbols;
 
 use checker::Checked;
-use checker::check;
+use checking::check;
 use codes::Layout;
 use codes::is_length;
 use refusals::Refusal;

@@ -1,0 +1,195 @@
+// The steps of a plan sheet: each read as a decoded step or a refusal, and run on the rows.
+ghost use mathlib.Core.Path.{_≡_};
+ghost use Prim.Native.Nat.{_+_, _*_, _≤_, _<_};
+ghost use lib.ListN.{drop};
+ghost use Rattle.gf2.specs.BitSets.{has};
+ghost use Rattle.gf2.specs.Plans.{target, ready, NamesBelow};
+ghost use Rattle.checker.specs.Plans.{stepOf, stepAt, sheetSteps};
+ghost use Rattle.checker.specs.Judgement.{DiskWithin, malformed, stepReading};
+ghost use Rattle.checker.specs.Progress.{sourceOf, valueOf, verdictOf, Progressed};
+use checker::steps::Progress;
+use checker::steps::StepReading;
+use codes::Layout;
+use gf2::BitSet;
+use gf2::Step;
+use gf2::has;
+use gf2::sum;
+use gf2::with;
+use refusals::Refusal;
+use refusals::Verdict;
+use sheets::byte_at;
+
+// 17: kind above 2, a number not below N, or clear with source not 0.
+fn malformed(kind: usize, place: usize, source: usize, symbols: usize) -> bool
+    ensures { λ r. ⌜ r ≡ malformed symbols (record { kind = kind; place = place; source = source }) ⌝ }
+{
+    if 2 < kind {
+        return true;
+    }
+    if symbols <= place {
+        return true;
+    }
+    if symbols <= source {
+        return true;
+    }
+    kind == 0 && source != 0
+}
+
+// Kind 0 is clear, kind 1 copy, kind 2 add.
+fn decoded(kind: usize, target: usize, source: usize) -> Step
+    ensures { λ r. ⌜ r ≡ stepOf (record { kind = kind; place = target; source = source }) ⌝ }
+{
+    if kind == 0 {
+        return Step::Clear { target };
+    }
+    if kind == 1 {
+        return Step::Copy { target, source };
+    }
+    Step::Add { target, source }
+}
+
+// Whether every place that the step uses is known.
+fn is_ready(step: Step, known: BitSet) -> bool
+    requires { ⌜ NamesBelow 64 step ⌝ }
+    ensures { λ r. ⌜ r ≡ ready step (has known) ⌝ }
+{
+    match step {
+        Step::Clear { target: _ } => true,
+        Step::Copy { target: _, source } => has(known, source),
+        Step::Add { target, source } => has(known, target) && has(known, source),
+    }
+}
+
+// In each step 17, 18, 19.
+fn judge_step(
+    kind: usize,
+    place: usize,
+    source: usize,
+    number: usize,
+    layout: Layout,
+    disk: usize,
+    known: BitSet,
+) -> StepReading
+    requires { ⌜ DiskWithin layout disk ⌝ }
+    ensures { λ r. ⌜ r ≡ stepReading layout disk (has known) number (record { kind = kind; place = place; source = source }) ⌝ }
+{
+    if malformed(kind, place, source, layout.symbols()) {
+        return StepReading::Refused(Refusal::MalformedStep { step: number });
+    }
+    if !layout.on_disk(disk, place) {
+        return StepReading::Refused(Refusal::TargetNotLost { step: number });
+    }
+    let step = decoded(kind, place, source);
+    if !is_ready(step, known) {
+        return StepReading::Refused(Refusal::UnfilledPlaceUsed { step: number });
+    }
+    StepReading::Step(step)
+}
+
+// Step `number` of the sheet.
+fn read_step(plan: &[u8], number: usize, layout: Layout, disk: usize, known: BitSet) -> StepReading
+    requires { ⌜ DiskWithin layout disk × (number < 1024) ⌝ }
+    ensures { λ r. ⌜ r ≡ stepReading layout disk (has known) number (stepAt (drop (9 + 3 * number) (now (plan .entry)))) ⌝ }
+{
+    let at = 9 + 3 * number;
+    judge_step(
+        byte_at(plan, at),
+        byte_at(plan, at + 1),
+        byte_at(plan, at + 2),
+        number,
+        layout,
+        disk,
+        known,
+    )
+}
+
+// The verdict on a step that was read.
+fn verdict_of(reading: StepReading) -> Verdict
+    ensures { λ r. ⌜ r ≡ verdictOf reading ⌝ }
+{
+    match reading {
+        StepReading::Step(_) => Verdict::Fine,
+        StepReading::Refused(refusal) => Verdict::Refused(refusal),
+    }
+}
+
+// The place that a step writes.
+fn target_of(step: Step) -> usize
+    ensures { λ r. ⌜ r ≡ target step ⌝ }
+{
+    match step {
+        Step::Clear { target } => target,
+        Step::Copy { target, source: _ } => target,
+        Step::Add { target, source: _ } => target,
+    }
+}
+
+// The place that a step reads; a clear has no source, and its own target stands for one.
+fn source_of(step: Step) -> usize
+    ensures { λ r. ⌜ r ≡ sourceOf step ⌝ }
+{
+    match step {
+        Step::Clear { target } => target,
+        Step::Copy { target: _, source } => source,
+        Step::Add { target: _, source } => source,
+    }
+}
+
+// What a step makes of what its target held and its source holds.
+fn value_of(step: Step, old: BitSet, source: BitSet) -> BitSet
+    ensures { λ r. ⌜ r ≡ valueOf step old source ⌝ }
+{
+    match step {
+        Step::Clear { target: _ } => 0,
+        Step::Copy {
+            target: _,
+            source: _,
+        } => source,
+        Step::Add {
+            target: _,
+            source: _,
+        } => sum(old, source),
+    }
+}
+
+// Runs the steps on the rows, each read against the places known by then. The first faulty step ends the run.
+pub fn run_steps(
+    code_rows: [BitSet; 64],
+    layout: Layout,
+    disk: usize,
+    survivors: BitSet,
+    plan: &[u8],
+    count: usize,
+) -> Progress
+    requires { ⌜ DiskWithin layout disk × (count ≤ 1024) ⌝ }
+    ensures { λ r. ⌜ Progressed layout disk «code_rows» survivors (sheetSteps count (drop 9 (now (plan .entry)))) r ⌝ }
+{
+    let mut rows = code_rows;
+    let mut known = survivors;
+    let mut sources = 0;
+    let mut number = 0;
+    while number < count {
+        let reading = read_step(plan, number, layout, disk, known);
+        let StepReading::Step(step) = reading else {
+            let verdict = verdict_of(reading);
+            return Progress {
+                verdict,
+                rows,
+                known,
+                sources,
+            };
+        };
+        let target = target_of(step);
+        let source = source_of(step);
+        rows[target] = value_of(step, rows[target], rows[source]);
+        known = with(known, target);
+        sources = with(sources, source);
+        number += 1;
+    }
+    Progress {
+        verdict: Verdict::Fine,
+        rows,
+        known,
+        sources,
+    }
+}
