@@ -19,7 +19,8 @@ use Rattle.refusals.specs.Orders.{andThen, firstOf, ifFine}
 use Rattle.refusals.specs.declared.Refusal.{Refusal}
 use Rattle.refusals.specs.declared.Verdict.{Verdict}
 use Rattle.refusals.proofs.OrderLaws.{refusal-stands, fine-means-none-holds}
-use Rattle.rebuild.specs.Rebuild.{rebuildFaults, rebuildVerdict, rebuilt, stripeAfter, Restored, planSymbols, SheetFormed, EachFits}
+use Rattle.rebuild.specs.Rebuild.{rebuildFaults, rebuildVerdict, rebuilt, stripeAfter, Restored, planSymbols, SheetFormed}
+use Rattle.stripes.specs.StepsWithin.{EachFits}
 use Rattle.rebuild.proofs.RestoreLaws.{steps-restore}
 use Rattle.sheets.specs.CodeReading.{reading}
 use Rattle.sheets.proofs.ReadingLaws.{code-within-limits}

@@ -1,4 +1,2 @@
-pub mod SymbolLoopLaws
-pub mod RunLaws
 pub mod RestoreLaws
 pub mod CallLaws

@@ -3,7 +3,7 @@
 use mathlib.Core.Path.{_≡_}
 use mathlib.Core.Bool.{false}
 use mathlib.Core.List.{List, [], _∷_, _++_, List·Memᴰ}
-use Prim.Native.Nat.{ℕ, _+_, _*_, _≤_}
+use Prim.Native.Nat.{ℕ, _≤_}
 use lib.ListN.{length, getD}
 use Rattle.checker.specs.Check.{planLength, checkVerdict}
 use Rattle.checker.specs.Judgement.{survives, malformed}
@@ -71,12 +71,3 @@ pub record SheetFormed (planSheet : List ℕ) : Type 0 where
   pub length-fits : length planSheet ≡ planLength (stepCount planSheet)
   pub steps-fit : stepCount planSheet ≤ 1024
   pub each-formed : (step : SheetStep) → List·Memᴰ step (planIn planSheet .steps) → malformed (planSymbols planSheet) step ≡ false
-
--- The symbols that a step names lie within the stripe
-pub record StepFits (size stripeBytes : ℕ) (step : SheetStep) : Type 0 where
-  pub target-within : (step .place + 1) * size ≤ stripeBytes
-  pub source-within : (step .source + 1) * size ≤ stripeBytes
-
--- Those of each step do
-abbrev pub EachFits : ℕ → ℕ → List SheetStep → Type 0
-EachFits size stripeBytes steps = (step : SheetStep) → List·Memᴰ step steps → StepFits size stripeBytes step

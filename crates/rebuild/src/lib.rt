@@ -5,18 +5,14 @@ ghost use Rattle.refusals.specs.Orders.{firstOf, ifFine};
 ghost use Rattle.refusals.specs.declared.Verdict.the-variants.{Fine};
 ghost use Rattle.sheets.specs.CodeReading.{reading};
 ghost use Rattle.rebuild.specs.Rebuild.{rebuildFaults, rebuildVerdict, rebuilt, stripeAfter, Restored, planSymbols, SheetFormed};
-
-mod run;
-mod symbols;
-
 use checker::Checked;
 use checking::check;
 use codes::Layout;
 use codes::is_length;
 use refusals::Refusal;
 use refusals::Verdict;
-use run::run_steps;
 use sheets::byte_at;
+use stripes::run_steps;
 
 // 31, 32.
 fn length_test(symbols: usize, size: usize, stripe_bytes: usize) -> Verdict

@@ -1,9 +1,9 @@
--- `rebuild::run::do_step` meets its contract: each kind's loop leaves what the step makes of its target. Assumes nothing.
+-- `stripes::do_step` meets its contract: each kind's loop leaves what the step makes of its target. Assumes nothing.
 use mathlib.Core.Path.{_∙_}
-use Rattle.rebuild.proofs.RunLaws.{kind-0-clears, kind-1-copies, other-kinds-add}
+use Rattle.stripes.proofs.RunLaws.{kind-0-clears, kind-1-copies, other-kinds-add}
 use borrow.Author.Needs.{needs}
-use Rattle.rebuild.proofs.run.do_step.Statement.{statement}
-use Rattle.rebuild.proofs.run.do_step.Tie as tie
+use Rattle.stripes.proofs.do_step.Statement.{statement}
+use Rattle.stripes.proofs.do_step.Tie as tie
 
 clear-requires : tie.Need-clear-requires
 clear-requires c κs = search needs

@@ -5,11 +5,14 @@ ghost use Prim.Native.Nat.{_≤_};
 ghost use lib.ListN.{length, drop};
 ghost use Rattle.gf2.specs.Stripes.{stepSymbol, putSymbol, runOnStripe};
 ghost use Rattle.checker.specs.Plans.{stepOf, sheetSteps};
-ghost use Rattle.rebuild.specs.Rebuild.{StepFits, EachFits};
-use super::symbols::add;
-use super::symbols::clear;
-use super::symbols::copy;
+ghost use Rattle.stripes.specs.StepsWithin.{StepFits, EachFits};
+
+mod symbols;
+
 use sheets::byte_at;
+use symbols::add;
+use symbols::clear;
+use symbols::copy;
 
 // One step: kind 0 is clear, kind 1 copy, kind 2 add.
 fn do_step(kind: usize, target: usize, source: usize, size: usize, stripe: &mut [u8])

@@ -1,13 +1,13 @@
--- `rebuild::symbols::copy` meets its contract. The invariant: the bytes passed are copied, all others as they were. Assumes nothing.
+-- `stripes::symbols::copy` meets its contract. The invariant: the bytes passed are copied, all others as they were. Assumes nothing.
 use Prim.Native.Nat.{_-_, _*_, _≤_}
 use mathlib.Core.Path.{_≡_, refl}
 use native.Mathlib.Omega.{arith}
 use lib.ListN.{length, length-set}
 use lib.Seq.{paste-zero}
 use Rattle.gf2.specs.Stripes.{symbol}
-use Rattle.rebuild.proofs.SymbolLoopLaws.{symbolTo, copied-more, copied-all}
-use Rattle.rebuild.proofs.symbols.copy.Statement.{statement}
-use Rattle.rebuild.proofs.symbols.copy.Tie as tie
+use Rattle.stripes.proofs.SymbolLoopLaws.{symbolTo, copied-more, copied-all}
+use Rattle.stripes.proofs.symbols.copy.Statement.{statement}
+use Rattle.stripes.proofs.symbols.copy.Tie as tie
 
 abbrev Inv-loop : tie.InvT-loop
 Inv-loop stripe₀ target source size to from i₀ stripe i =

@@ -1,10 +1,10 @@
--- `rebuild::run::run_steps` meets its contract. The invariant: all steps leave what those that remain leave of the stripe that is reached. Assumes nothing.
+-- `stripes::run_steps` meets its contract. The invariant: all steps leave what those that remain leave of the stripe that is reached. Assumes nothing.
 use Prim.Native.Nat.{_+_, _-_, _*_}
 use native.Mathlib.Omega.{arith}
 use Rattle.checker.proofs.StepLaws.{bytes-are-step}
-use Rattle.rebuild.proofs.RunLaws.{Remaining, remaining-all, next-fits, remaining-next, remaining-none}
-use Rattle.rebuild.proofs.run.run_steps.Statement.{statement}
-use Rattle.rebuild.proofs.run.run_steps.Tie as tie
+use Rattle.stripes.proofs.RunLaws.{Remaining, remaining-all, next-fits, remaining-next, remaining-none}
+use Rattle.stripes.proofs.run_steps.Statement.{statement}
+use Rattle.stripes.proofs.run_steps.Tie as tie
 
 abbrev Inv-loop : tie.InvT-loop
 Inv-loop plan count size stripe₀ number₀ stripe number = Remaining size plan count stripe₀ stripe number

@@ -1,13 +1,13 @@
--- `rebuild::symbols::add` meets its contract. The invariant: the bytes passed are summed, all others as they were. Assumes nothing.
+-- `stripes::symbols::add` meets its contract. The invariant: the bytes passed are summed, all others as they were. Assumes nothing.
 use Prim.Native.Nat.{_-_, _*_, _≤_}
 use mathlib.Core.Path.{_≡_, refl}
 use native.Mathlib.Omega.{arith}
 use lib.ListN.{length, length-set}
 use lib.Seq.{paste-zero}
 use Rattle.gf2.specs.Stripes.{symbol, xorBytes}
-use Rattle.rebuild.proofs.SymbolLoopLaws.{symbolTo, added-more, added-all}
-use Rattle.rebuild.proofs.symbols.add.Statement.{statement}
-use Rattle.rebuild.proofs.symbols.add.Tie as tie
+use Rattle.stripes.proofs.SymbolLoopLaws.{symbolTo, added-more, added-all}
+use Rattle.stripes.proofs.symbols.add.Statement.{statement}
+use Rattle.stripes.proofs.symbols.add.Tie as tie
 
 abbrev Inv-loop : tie.InvT-loop
 Inv-loop stripe₀ target source size to from i₀ stripe i =

@@ -10,7 +10,7 @@ use Rattle.checker.specs.Plans.{SheetStep, stepOf, stepAt, sheetSteps}
 use Rattle.checker.proofs.StepLaws.{target-stepOf, sheetSteps-next}
 use Rattle.gf2.specs.Plans.{target}
 use Rattle.gf2.specs.Stripes.{symbol, xorBytes, stepSymbol, putSymbol, runOnStripe}
-use Rattle.rebuild.specs.Rebuild.{StepFits, EachFits}
+use Rattle.stripes.specs.StepsWithin.{StepFits, EachFits}
 
 -- ------------------------------------------------------------------
 -- One step

@@ -1,12 +1,12 @@
--- `rebuild::symbols::clear` meets its contract. The invariant: the bytes passed are cleared, all others as they were. Assumes nothing.
+-- `stripes::symbols::clear` meets its contract. The invariant: the bytes passed are cleared, all others as they were. Assumes nothing.
 use Prim.Native.Nat.{_-_, _*_, _≤_}
 use mathlib.Core.Path.{_≡_, refl}
 use native.Mathlib.Omega.{arith}
 use lib.ListN.{length, length-set, replicate}
 use lib.Seq.{paste-zero}
-use Rattle.rebuild.proofs.SymbolLoopLaws.{symbolTo, cleared-more, cleared-all}
-use Rattle.rebuild.proofs.symbols.clear.Statement.{statement}
-use Rattle.rebuild.proofs.symbols.clear.Tie as tie
+use Rattle.stripes.proofs.SymbolLoopLaws.{symbolTo, cleared-more, cleared-all}
+use Rattle.stripes.proofs.symbols.clear.Statement.{statement}
+use Rattle.stripes.proofs.symbols.clear.Tie as tie
 
 abbrev Inv-loop : tie.InvT-loop
 Inv-loop stripe₀ target size to i₀ stripe i =

@@ -1,0 +1,2 @@
+pub mod SymbolLoopLaws
+pub mod RunLaws
