@@ -1,7 +1,6 @@
 -- `checking::check` meets its contract: its answer is the definition's, and it accepts exactly what deserves it. Assumes nothing.
 use mathlib.Core.Path.{sym, _∙_}
 use Rattle.checker.proofs.CheckLaws.{fits-if-fine, promised-if-refused, promised-if-fine}
-use borrow.Author.Needs.{needs}
 use Rattle.checking.proofs.check.Statement.{statement}
 use Rattle.checking.proofs.check.Tie as tie
 
@@ -12,10 +11,10 @@ head-test-requires : tie.Need-head-test-requires
 head-test-requires c κs = tt
 
 enum-known-head : tie.Need-enum-known-head
-enum-known-head c = search needs
+enum-known-head c = c .match .keys1
 
 enum-told : tie.Need-enum-told
-enum-told c = search needs
+enum-told c = c .match .keys2
 
 judge-requires : tie.Need-judge-requires
 judge-requires c κs =

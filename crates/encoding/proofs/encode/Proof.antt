@@ -25,10 +25,10 @@ encode-test-requires : tie.Need-encode-test-requires
 encode-test-requires c κs = search needs
 
 enum-told : tie.Need-enum-told
-enum-told c = search needs
+enum-told c = c .match .keys1
 
 enum-told-2 : tie.Need-enum-told-2
-enum-told-2 c = search needs
+enum-told-2 c = c .match .keys2
 
 -- What the tests answered is the definition's verdict
 verdict : (c : tie.After-encode-test)

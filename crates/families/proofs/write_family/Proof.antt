@@ -16,7 +16,7 @@ verdict-on-requires : tie.Need-verdict-on-requires
 verdict-on-requires c κs = search needs
 
 enum-told : tie.Need-enum-told
-enum-told c = search needs
+enum-told c = c .match .keys1
 
 code-of-requires : tie.Need-code-of-requires
 code-of-requires c κs =
@@ -43,7 +43,7 @@ sheet-length-of-requires c κs =
     fine-so-listed (a .family) (length (a .buffer .now)) fine
 
 enum-known-verdict : tie.Need-enum-known-verdict
-enum-known-verdict c = search needs
+enum-known-verdict c = c .match .keys2
 
 same-length : tie.Need-same-length
 same-length c = search needs

@@ -15,10 +15,10 @@ read-code-requires : tie.Need-read-code-requires
 read-code-requires c κs = search needs
 
 enum-known-verdict : tie.Need-enum-known-verdict
-enum-known-verdict c = search needs
+enum-known-verdict c = c .match .keys1
 
 enum-told : tie.Need-enum-told
-enum-told c = search needs
+enum-told c = c .match .keys2
 
 byte-at-requires : tie.Need-byte-at-requires
 byte-at-requires c κs = search needs

@@ -8,13 +8,13 @@ use Rattle.lines.proofs.push_answer.Statement.{statement}
 use Rattle.lines.proofs.push_answer.Tie as tie
 
 enum-known-answer : tie.Need-enum-known-answer
-enum-known-answer c = search needs
+enum-known-answer c = c .match .keys1
 
 push-accepted-requires : tie.Need-push-accepted-requires
 push-accepted-requires c κs = search needs
 
 enum-known-answer-2 : tie.Need-enum-known-answer-2
-enum-known-answer-2 c = search needs
+enum-known-answer-2 c = c .match .keys2
 
 push-refusal-requires : tie.Need-push-refusal-requires
 push-refusal-requires c κs = search needs

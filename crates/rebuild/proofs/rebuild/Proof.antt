@@ -12,10 +12,10 @@ check-requires : tie.Need-check-requires
 check-requires c κs = search needs
 
 enum-known-checked : tie.Need-enum-known-checked
-enum-known-checked c = search needs
+enum-known-checked c = c .match .keys1
 
 enum-told : tie.Need-enum-told
-enum-told c = search needs
+enum-told c = c .match .keys2
 
 -- What is accepted deserves it
 deserves : (c : tie.After-enum-told) → DeservesAcceptance (c .before .before .before .before .before .before .args .sheet .now) (c .before .before .before .before .before .before .args .disk) (c .before .before .before .before .before .before .args .plan .now) (c .enum-told .given .0 .0)

@@ -21,10 +21,10 @@ length-test-requires : tie.Need-length-test-requires
 length-test-requires c κs = search needs
 
 enum-told : tie.Need-enum-told
-enum-told c = search needs
+enum-told c = c .match .keys1
 
 enum-told-2 : tie.Need-enum-told-2
-enum-told-2 c = search needs
+enum-told-2 c = c .match .keys2
 
 -- What the tests answered is the verdict
 verdict : (c : tie.After-length-test)

@@ -35,10 +35,10 @@ head-verdict-requires c κs =
     (c .before .before .before .before .before .byte-at .ensures .1, c .before .before .before .before .byte-at2 .ensures .1, c .before .before .byte-at4 .ensures .1)
 
 enum-told : tie.Need-enum-told
-enum-told c = search needs
+enum-told c = c .match .keys1
 
 enum-told-2 : tie.Need-enum-told-2
-enum-told-2 c = search needs
+enum-told-2 c = c .match .keys2
 
 no-code-requires : tie.Need-no-code-requires
 no-code-requires c κs = tt

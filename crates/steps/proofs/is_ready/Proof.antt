@@ -7,16 +7,16 @@ use Rattle.steps.proofs.is_ready.Statement.{statement}
 use Rattle.steps.proofs.is_ready.Tie as tie
 
 enum-told : tie.Need-enum-told
-enum-told c = search needs
+enum-told c = c .match .keys1
 
 enum-known-step : tie.Need-enum-known-step
-enum-known-step c = search needs
+enum-known-step c = c .match .keys2
 
 has-requires : tie.Need-has-requires
 has-requires c κs = subst (NamesBelow 64) (c .before .step .given .1) (c .before .before .before .pre) .1
 
 enum-known-step-2 : tie.Need-enum-known-step-2
-enum-known-step-2 c = search needs
+enum-known-step-2 c = c .match .keys3
 
 has-requires-2 : tie.Need-has-requires-2
 has-requires-2 c κs =

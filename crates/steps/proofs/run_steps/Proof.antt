@@ -6,7 +6,6 @@ use Prim.Native.Nat.{_+_, _-_, _*_, _≤_, _<_}
 use native.Mathlib.Nat.{sub-zero}
 use native.Mathlib.Omega.{arith}
 use lib.ListN.{drop}
-use borrow.Author.Needs.{needs}
 use Rattle.gf2.specs.Plans.{NamesBelow}
 use Rattle.checker.specs.Plans.{stepAt, sheetSteps}
 use Rattle.checker.proofs.StepLaws.{Remaining, remaining-all, remaining-next, remaining-refused, remaining-none, sheetSteps-next, step-read-names-below, source-below}
@@ -30,10 +29,10 @@ read-step-requires : tie.Need-read-step-requires Inv-loop μ-loop
 read-step-requires c κs = (c .before .before .before .pre .0, omega arith)
 
 enum-known-reading : tie.Need-enum-known-reading Inv-loop μ-loop
-enum-known-reading c = search needs
+enum-known-reading c = c .match .keys1
 
 enum-told : tie.Need-enum-told Inv-loop μ-loop
-enum-told c = search needs
+enum-told c = c .match .keys2
 
 verdict-of-requires : tie.Need-verdict-of-requires Inv-loop μ-loop
 verdict-of-requires c κs = tt

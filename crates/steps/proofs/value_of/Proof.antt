@@ -4,13 +4,13 @@ use Rattle.steps.proofs.value_of.Statement.{statement}
 use Rattle.steps.proofs.value_of.Tie as tie
 
 enum-told : tie.Need-enum-told
-enum-told c = search needs
+enum-told c = c .match .keys1
 
 enum-told-2 : tie.Need-enum-told-2
-enum-told-2 c = search needs
+enum-told-2 c = c .match .keys2
 
 enum-told-3 : tie.Need-enum-told-3
-enum-told-3 c = search needs
+enum-told-3 c = c .match .keys3
 
 sum-requires : tie.Need-sum-requires
 sum-requires c κs = tt

@@ -17,10 +17,10 @@ strip-test-requires c κs =
     layout-small (c .before .before .before .before .before .args .sheet .now) (c .before .before .read-code .result) (c .before .before .read-code .ensures)
 
 enum-told : tie.Need-enum-told
-enum-told c = search needs
+enum-told c = c .match .keys1
 
 enum-told-2 : tie.Need-enum-told-2
-enum-told-2 c = search needs
+enum-told-2 c = c .match .keys2
 
 sub-result : tie.Need-sub-result
 sub-result c = search needs

@@ -52,10 +52,10 @@ or-if-requires-3 : tie.Need-or-if-requires-3
 or-if-requires-3 c κs = tt
 
 enum-known-verdict : tie.Need-enum-known-verdict
-enum-known-verdict c = search needs
+enum-known-verdict c = c .match .keys1
 
 enum-told : tie.Need-enum-told
-enum-told c = search needs
+enum-told c = c .match .keys2
 
 -- What the call was given, behind its last test
 abbrev start : tie.After-or-if3 → tie.Start

@@ -1,7 +1,6 @@
 -- `code::parity_row` meets its contract, family by family. Assumes nothing.
 use mathlib.Core.Path.{sym, ap, _∙_}
 use native.Mathlib.Omega.{arith}
-use borrow.Author.Needs.{needs}
 use Rattle.family_codes.specs.Families.{listed, familyHeight, parityRow}
 use Rattle.family_codes.specs.declared.Family.{Family}
 use Rattle.family_codes.proofs.FamilyLaws.{dataSymbols-to}
@@ -9,7 +8,7 @@ use Rattle.family_codes.proofs.code.parity_row.Statement.{statement}
 use Rattle.family_codes.proofs.code.parity_row.Tie as tie
 
 enum-known-family : tie.Need-enum-known-family
-enum-known-family c = search needs
+enum-known-family c = c .match .keys1
 
 row-parity-requires : tie.Need-row-parity-requires
 row-parity-requires c κs =
@@ -18,7 +17,7 @@ row-parity-requires c κs =
     (dataSymbols-to _ (sym (ap listed e) ∙ start .pre .0), omega (arith, start .pre .1, ap familyHeight e))
 
 enum-known-family-2 : tie.Need-enum-known-family-2
-enum-known-family-2 c = search needs
+enum-known-family-2 c = c .match .keys2
 
 parity-row-requires : tie.Need-parity-row-requires
 parity-row-requires c κs =
@@ -27,7 +26,7 @@ parity-row-requires c κs =
     (sym (ap listed e) ∙ start .pre .0, omega (arith, start .pre .1, ap familyHeight e))
 
 enum-known-family-3 : tie.Need-enum-known-family-3
-enum-known-family-3 c = search needs
+enum-known-family-3 c = c .match .keys3
 
 parity-row-requires-2 : tie.Need-parity-row-requires-2
 parity-row-requires-2 c κs =

@@ -8,13 +8,13 @@ use Rattle.family_codes.proofs.listed.data_disks_of.Statement.{statemen
 use Rattle.family_codes.proofs.listed.data_disks_of.Tie as tie
 
 enum-known-family : tie.Need-enum-known-family
-enum-known-family c = search needs
+enum-known-family c = c .match .keys1
 
 enum-known-family-2 : tie.Need-enum-known-family-2
-enum-known-family-2 c = search needs
+enum-known-family-2 c = c .match .keys2
 
 enum-known-family-3 : tie.Need-enum-known-family-3
-enum-known-family-3 c = search needs
+enum-known-family-3 c = c .match .keys3
 
 sub-result : tie.Need-sub-result
 sub-result c =

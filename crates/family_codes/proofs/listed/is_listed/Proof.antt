@@ -6,19 +6,19 @@ use Rattle.family_codes.proofs.listed.is_listed.Statement.{statement}
 use Rattle.family_codes.proofs.listed.is_listed.Tie as tie
 
 enum-known-family : tie.Need-enum-known-family
-enum-known-family c = search needs
+enum-known-family c = c .match .keys1
 
 single-parity-listed-requires : tie.Need-single-parity-listed-requires
 single-parity-listed-requires c κs = search needs
 
 enum-known-family-2 : tie.Need-enum-known-family-2
-enum-known-family-2 c = search needs
+enum-known-family-2 c = c .match .keys2
 
 liberation-listed-requires : tie.Need-liberation-listed-requires
 liberation-listed-requires c κs = search needs
 
 enum-known-family-3 : tie.Need-enum-known-family-3
-enum-known-family-3 c = search needs
+enum-known-family-3 c = c .match .keys3
 
 three-five-or-seven-requires : tie.Need-three-five-or-seven-requires
 three-five-or-seven-requires c κs = search needs
