@@ -22,7 +22,7 @@ pub extern "C" fn navorzim_encode(sheet: &[u8], size: usize, contents: &[u8], st
 
 #[no_mangle]
 pub extern "C" fn navorzim_check(sheet: &[u8], disk: usize, plan: &[u8]) -> u64 {
-    let checked = checking::check(sheet, disk, plan);
+    let checked = checker::check(sheet, disk, plan);
     match checked {
         Checked::Accepted { reads } => 1000 + (reads % 256) as u64,
         Checked::Refused(refusal) => refusal.number(),
@@ -38,7 +38,7 @@ pub extern "C" fn navorzim_rebuild(sheet: &[u8], disk: usize, plan: &[u8], size:
     }
 }
 RATTLE
-echo "exports: refusals encoding checker checking rebuild" >>"$room/crates.txt"
+echo "exports: refusals encoding plans checker rebuild" >>"$room/crates.txt"
 (cd "$room" && rt staticlib exports >"$room/log" 2>&1) || { cat "$room/log"; exit 1; }
 rustc --edition 2021 -O bench/bench.rs -L "$room/target/staticlib" -l static=exports -o "$room/bench"
 "$room/bench"

@@ -7,10 +7,10 @@ use native.Mathlib.Omega.{arith}
 use lib.ListN.{length, getD}
 use borrow.Author.Tests.{ltb-true}
 use Rattle.cases.specs.Cases.{square, apart, emptyRow, table, AllRight, CannotBeRebuilt}
-use Rattle.checker.specs.Check.{checked, checkVerdict}
-use Rattle.checker.specs.Judgement.{lost, survives, stepsVerdict, readByAny, howMany, bodyVerdict}
-use Rattle.checker.specs.Plans.{sheetSteps}
-use Rattle.checker.proofs.PatternLaws.{zero-on-survivors, one-on-lost, no-plan-if-pattern-odd}
+use Rattle.plans.specs.Check.{checked, checkVerdict}
+use Rattle.plans.specs.Judgement.{lost, survives, stepsVerdict, readByAny, howMany, bodyVerdict}
+use Rattle.plans.specs.Plans.{sheetSteps}
+use Rattle.plans.proofs.PatternLaws.{zero-on-survivors, one-on-lost, no-plan-if-pattern-odd}
 use Rattle.codes.specs.Codes.{rowsOf, matrix, WithinLimits}
 use Rattle.codes.specs.Layouts.{symbolsOf, firstSymbol, heightOf, onDisk}
 use Rattle.codes.specs.declared.Code.{Code}

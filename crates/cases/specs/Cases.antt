@@ -4,10 +4,10 @@ use mathlib.Core.Bool.{true}
 use mathlib.Core.List.{List, [], _∷_, _++_}
 use Prim.Native.Nat.{ℕ, suc, _<_, _^_}
 use lib.ListN.{getD, length, replicate}
-use Rattle.checker.specs.Check.{checked}
-use Rattle.checker.specs.Judgement.{lost, survives, planVerdict}
-use Rattle.checker.specs.Plans.{Plan}
-use Rattle.checker.specs.declared.Checked.{Checked}
+use Rattle.plans.specs.Check.{checked}
+use Rattle.plans.specs.Judgement.{lost, survives, planVerdict}
+use Rattle.plans.specs.Plans.{Plan}
+use Rattle.plans.specs.declared.Checked.{Checked}
 use Rattle.codes.specs.Codes.{matrix}
 use Rattle.codes.specs.declared.Code.{Code}
 use Rattle.encoding.specs.Encoding.{encodedStripe}
@@ -22,7 +22,7 @@ use Rattle.refusals.specs.declared.Refusal.the-variants.{TargetNotLost, Unfille
 use Rattle.refusals.specs.declared.Verdict.the-variants.{Fine}
 use Rattle.sheets.specs.CodeReading.{reading}
 use Rattle.sheets.specs.CodeSheets.{rowBytes}
-use Rattle.checker.specs.declared.Checked.the-variants as Answers
+use Rattle.plans.specs.declared.Checked.the-variants as Answers
 
 -- ------------------------------------------------------------------
 -- Sheets

@@ -10,8 +10,8 @@ use borrow.Author.Tests.{le-leb, lt-leb}
 use lib.Dec.{leb}
 use lib.ListN.{length, take, drop, getD, set, length-append}
 use lib.Seq.{paste-suc, getD-take, take-length, length-take-le}
-use Rattle.checker.specs.Check.{checked}
-use Rattle.checker.specs.declared.Checked.{Checked}
+use Rattle.plans.specs.Check.{checked}
+use Rattle.plans.specs.declared.Checked.{Checked}
 use Rattle.codes.specs.declared.Code.{Code}
 use Rattle.lines.specs.Lines.{codeSheetIn, planSheetIn, diskIn, linesOf, deskText, writtenLength, writtenOver}
 use Rattle.texts.specs.Lines.{codeLine, refusalLine}

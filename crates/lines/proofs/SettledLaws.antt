@@ -10,11 +10,11 @@ use borrow.Author.Tests.{lt-ltb, le-ltb, ltb-false, leb-true, leb-false}
 use lib.Dec.{leb, ltb}
 use lib.ListN.{length, take, drop, getD}
 use lib.Seq.{take-all, take-nil, take-take, getD-take, length-take-le}
-use Rattle.checker.specs.Check.{planLength, sheetFaults, checkVerdict, answerOf, checked}
-use Rattle.checker.specs.Judgement.{bodyVerdict}
-use Rattle.checker.specs.Plans.{planIn, stepCount}
-use Rattle.checker.specs.declared.Checked.{Checked}
-use Rattle.checker.proofs.CheckLaws.{fits-if-fine}
+use Rattle.plans.specs.Check.{planLength, sheetFaults, checkVerdict, answerOf, checked}
+use Rattle.plans.specs.Judgement.{bodyVerdict}
+use Rattle.plans.specs.Plans.{planIn, stepCount}
+use Rattle.plans.specs.declared.Checked.{Checked}
+use Rattle.plans.proofs.CheckLaws.{fits-if-fine}
 use Rattle.codes.specs.declared.Layout.{Layout}
 use Rattle.lines.specs.Lines.{diskIn, sheetLengthIn, codeSheetIn, planSheetIn, linesOf, deskText}
 use Rattle.refusals.specs.Orders.{Fault, _gets_, orIf, andThen, ifFine}

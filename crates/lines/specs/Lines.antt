@@ -5,9 +5,9 @@ use mathlib.Core.List.{List, _++_}
 use Prim.Native.Nat.{ℕ, _+_, _*_}
 use lib.Dec.{leb}
 use lib.ListN.{length, take, drop, getD}
-use Rattle.checker.specs.Check.{checked}
-use Rattle.checker.specs.declared.Checked.{Checked}
-use Rattle.checker.specs.declared.Checked.the-variants as Answers
+use Rattle.plans.specs.Check.{checked}
+use Rattle.plans.specs.declared.Checked.{Checked}
+use Rattle.plans.specs.declared.Checked.the-variants as Answers
 use Rattle.codes.specs.declared.Code.{Code}
 use Rattle.refusals.specs.Refusals.{numberOf, placeOf}
 use Rattle.refusals.specs.declared.Verdict.{Verdict}

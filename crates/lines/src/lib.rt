@@ -8,7 +8,7 @@ ghost use Rattle.refusals.specs.declared.Verdict.the-variants.{Fine};
 ghost use Rattle.texts.specs.Lines.{refusalLine};
 ghost use Rattle.texts.specs.Texts.{textOf, HasRoom, Extended, Holds};
 use checker::Checked;
-use checking::check;
+use checker::check;
 use codes::Code;
 use refusals::Refusal;
 use refusals::Verdict;

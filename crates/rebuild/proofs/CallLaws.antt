@@ -6,11 +6,11 @@ use Prim.Native.Nat.{ℕ, _-_, _*_, _/_, _≤_, _<_}
 use native.Mathlib.Omega.{arith}
 use lib.ListN.{length, getD, drop}
 use borrow.Author.Tests.{not-false, eqb-true}
-use Rattle.checker.specs.Check.{checkVerdict, answerOf, checked}
-use Rattle.checker.specs.Demand2.{DeservesAcceptance}
-use Rattle.checker.specs.Judgement.{malformed}
-use Rattle.checker.specs.Plans.{SheetStep, planIn, stepCount, stepOf, sheetSteps}
-use Rattle.checker.proofs.StepLaws.{formed-step}
+use Rattle.plans.specs.Check.{checkVerdict, answerOf, checked}
+use Rattle.plans.specs.Demand2.{DeservesAcceptance}
+use Rattle.plans.specs.Judgement.{malformed}
+use Rattle.plans.specs.Plans.{SheetStep, planIn, stepCount, stepOf, sheetSteps}
+use Rattle.plans.proofs.StepLaws.{formed-step}
 use Rattle.codes.specs.Codes.{symbols}
 use Rattle.codes.specs.Layouts.{symbolsOf}
 use Rattle.gf2.specs.Stripes.{runOnStripe}
@@ -24,7 +24,7 @@ use Rattle.stripes.specs.StepsWithin.{EachFits}
 use Rattle.rebuild.proofs.RestoreLaws.{steps-restore}
 use Rattle.sheets.specs.CodeReading.{reading}
 use Rattle.sheets.proofs.ReadingLaws.{code-within-limits}
-use Rattle.checker.specs.declared.Checked.the-variants as Answers
+use Rattle.plans.specs.declared.Checked.the-variants as Answers
 use Rattle.refusals.specs.declared.Verdict.the-variants as Verdicts
 
 -- ------------------------------------------------------------------

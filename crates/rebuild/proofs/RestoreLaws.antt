@@ -6,10 +6,10 @@ use mathlib.Core.Logic.{⊎-elim}
 use Prim.Native.Nat.{ℕ, _*_, _<_}
 use lib.Dec.{ltb}
 use lib.ListN.{length}
-use Rattle.checker.specs.Demand2.{Deserves}
-use Rattle.checker.specs.Judgement.{lost, survives}
-use Rattle.checker.specs.Plans.{planIn, stepsOf}
-use Rattle.checker.proofs.JudgementLaws.{AcceptedFor, accepted-if-deserves, fine-if-deserves, gives-stripe-back-if-fine, lost-below, survives-below, lost-or-survives}
+use Rattle.plans.specs.Demand2.{Deserves}
+use Rattle.plans.specs.Judgement.{lost, survives}
+use Rattle.plans.specs.Plans.{planIn, stepsOf}
+use Rattle.plans.proofs.JudgementLaws.{AcceptedFor, accepted-if-deserves, fine-if-deserves, gives-stripe-back-if-fine, lost-below, survives-below, lost-or-survives}
 use Rattle.codes.specs.Codes.{symbols, WithinLimits}
 use Rattle.codes.specs.Layouts.{symbolsOf, onDisk}
 use Rattle.codes.specs.declared.Code.{Code}

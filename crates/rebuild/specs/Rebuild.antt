@@ -5,9 +5,9 @@ use mathlib.Core.Bool.{false}
 use mathlib.Core.List.{List, [], _∷_, _++_, List·Memᴰ}
 use Prim.Native.Nat.{ℕ, _≤_}
 use lib.ListN.{length, getD}
-use Rattle.checker.specs.Check.{planLength, checkVerdict}
-use Rattle.checker.specs.Judgement.{survives, malformed}
-use Rattle.checker.specs.Plans.{SheetStep, planIn, stepCount, stepsOf}
+use Rattle.plans.specs.Check.{planLength, checkVerdict}
+use Rattle.plans.specs.Judgement.{survives, malformed}
+use Rattle.plans.specs.Plans.{SheetStep, planIn, stepCount, stepsOf}
 use Rattle.codes.specs.Codes.{symbols, matrix}
 use Rattle.codes.specs.Layouts.{symbolsOf}
 use Rattle.codes.specs.Lengths.{symbolLengthFaults, lengthFault}

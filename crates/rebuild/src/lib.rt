@@ -6,7 +6,7 @@ ghost use Rattle.refusals.specs.declared.Verdict.the-variants.{Fine};
 ghost use Rattle.sheets.specs.CodeReading.{reading};
 ghost use Rattle.rebuild.specs.Rebuild.{rebuildFaults, rebuildVerdict, rebuilt, stripeAfter, Restored, planSymbols, SheetFormed};
 use checker::Checked;
-use checking::check;
+use checker::check;
 use codes::Layout;
 use codes::is_length;
 use refusals::Refusal;

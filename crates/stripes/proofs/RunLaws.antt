@@ -6,8 +6,8 @@ use native.Mathlib.Nat.{sub-zero}
 use native.Mathlib.Omega.{arith}
 use lib.ListN.{length, drop, replicate}
 use borrow.Author.Tests.{ne-eqb}
-use Rattle.checker.specs.Plans.{SheetStep, stepOf, stepAt, sheetSteps}
-use Rattle.checker.proofs.StepLaws.{target-stepOf, sheetSteps-next}
+use Rattle.plans.specs.Plans.{SheetStep, stepOf, stepAt, sheetSteps}
+use Rattle.plans.proofs.StepLaws.{target-stepOf, sheetSteps-next}
 use Rattle.gf2.specs.Plans.{target}
 use Rattle.gf2.specs.Stripes.{symbol, xorBytes, stepSymbol, putSymbol, runOnStripe}
 use Rattle.stripes.specs.StepsWithin.{StepFits, EachFits}

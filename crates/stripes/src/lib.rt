@@ -4,7 +4,7 @@ ghost use mathlib.Core.List.{map};
 ghost use Prim.Native.Nat.{_≤_};
 ghost use lib.ListN.{length, drop};
 ghost use Rattle.gf2.specs.Stripes.{stepSymbol, putSymbol, runOnStripe};
-ghost use Rattle.checker.specs.Plans.{stepOf, sheetSteps};
+ghost use Rattle.plans.specs.Plans.{stepOf, sheetSteps};
 ghost use Rattle.stripes.specs.StepsWithin.{StepFits, EachFits};
 
 mod symbols;

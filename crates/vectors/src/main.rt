@@ -285,7 +285,7 @@ fn check(record: &[u8]) {
     let rest = rest_at(record, 17);
     let sheet = front_of(rest, number_at(record, 9));
     let plan = rest_at(rest, sheet.len());
-    let checked = checking::check(sheet, number_at(record, 1), plan);
+    let checked = checker::check(sheet, number_at(record, 1), plan);
     match checked {
         Checked::Accepted { reads } => {
             print(b"accepted reads");

@@ -1,7 +1,7 @@
 -- `rebuild::rebuild` meets its contract: its verdict and what it leaves are the definition's, and what is not refused is restored. Assumes nothing.
 use mathlib.Core.Path.{refl, sym, _∙_}
 use native.Mathlib.Omega.{arith}
-use Rattle.checker.specs.Demand2.{DeservesAcceptance}
+use Rattle.plans.specs.Demand2.{DeservesAcceptance}
 use Rattle.refusals.proofs.OrderLaws.{refused-is-not-fine}
 use Rattle.rebuild.proofs.CallLaws.{sheet-formed, verdict-refused, verdict-accepted, stripe-by-verdict, restored-if-fine}
 use borrow.Author.Needs.{needs}

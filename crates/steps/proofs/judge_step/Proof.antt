@@ -5,10 +5,10 @@ use Rattle.codes.specs.Layouts.{symbolsOf}
 use Rattle.gf2.specs.BitSets.{has}
 use Rattle.gf2.specs.Plans.{NamesBelow, ready}
 use Rattle.gf2.specs.declared.Step.{Step}
-use Rattle.checker.specs.declared.steps.StepReading.the-variants as Readings
-use Rattle.checker.specs.Plans.{SheetStep}
-use Rattle.checker.specs.Judgement.{malformed}
-use Rattle.checker.proofs.StepLaws.{stepOf-names-below, reads-malformed, reads-target-not-lost, reads-unfilled, reads-step}
+use Rattle.plans.specs.declared.steps.StepReading.the-variants as Readings
+use Rattle.plans.specs.Plans.{SheetStep}
+use Rattle.plans.specs.Judgement.{malformed}
+use Rattle.plans.proofs.StepLaws.{stepOf-names-below, reads-malformed, reads-target-not-lost, reads-unfilled, reads-step}
 use borrow.Author.Needs.{needs}
 use Rattle.steps.proofs.judge_step.Statement.{statement}
 use Rattle.steps.proofs.judge_step.Tie as tie

@@ -2,8 +2,8 @@
 use mathlib.Core.Path.{ap, _∙_}
 use Prim.Native.Nat.{_+_, _*_}
 use Rattle.gf2.specs.BitSets.{has}
-use Rattle.checker.specs.Judgement.{stepReading}
-use Rattle.checker.proofs.StepLaws.{bytes-are-step}
+use Rattle.plans.specs.Judgement.{stepReading}
+use Rattle.plans.proofs.StepLaws.{bytes-are-step}
 use borrow.Author.Needs.{needs}
 use Rattle.steps.proofs.read_step.Statement.{statement}
 use Rattle.steps.proofs.read_step.Tie as tie

@@ -7,8 +7,8 @@ use native.Mathlib.Nat.{sub-zero}
 use native.Mathlib.Omega.{arith}
 use lib.ListN.{drop}
 use Rattle.gf2.specs.Plans.{NamesBelow}
-use Rattle.checker.specs.Plans.{stepAt, sheetSteps}
-use Rattle.checker.proofs.StepLaws.{Remaining, remaining-all, remaining-next, remaining-refused, remaining-none, sheetSteps-next, step-read-names-below, source-below}
+use Rattle.plans.specs.Plans.{stepAt, sheetSteps}
+use Rattle.plans.proofs.StepLaws.{Remaining, remaining-all, remaining-next, remaining-refused, remaining-none, sheetSteps-next, step-read-names-below, source-below}
 use Rattle.gf2.proofs.PlanLaws.{target-below}
 use Rattle.steps.proofs.run_steps.Statement.{statement}
 use Rattle.steps.proofs.run_steps.Tie as tie

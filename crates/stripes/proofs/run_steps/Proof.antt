@@ -1,7 +1,7 @@
 -- `stripes::run_steps` meets its contract. The invariant: all steps leave what those that remain leave of the stripe that is reached. Assumes nothing.
 use Prim.Native.Nat.{_+_, _-_, _*_}
 use native.Mathlib.Omega.{arith}
-use Rattle.checker.proofs.StepLaws.{bytes-are-step}
+use Rattle.plans.proofs.StepLaws.{bytes-are-step}
 use Rattle.stripes.proofs.RunLaws.{Remaining, remaining-all, next-fits, remaining-next, remaining-none}
 use Rattle.stripes.proofs.run_steps.Statement.{statement}
 use Rattle.stripes.proofs.run_steps.Tie as tie
