@@ -116,3 +116,17 @@ module _ (size dataSymbols : ℕ) (rows bytes stripe : List ℕ) (exact : length
             ∙ simp length-drop (omega (arith, front, mul-le-mul-right size h)),
         e,
       )
+
+  -- One turn of the loop
+  pub written-next : (count : ℕ) (now new : List ℕ) (s : ℕ) → count ≤ 64 → length stripe ≡ count * size → s < count
+      → WrittenSoFar size dataSymbols rows bytes stripe count now s × (length rows ≡ 64)
+      → new ≡ encodedSymbol size bytes (getD rows s 0) dataSymbols
+      → WrittenSoFar size dataSymbols rows bytes stripe count (putMid (s * size) ((s + 1) * size - s * size) now new) (s + 1) × (length rows ≡ 64)
+  written-next count now new s few whole h (so-far, held) e =
+      (written-so-far count _ (s + 1) whole (omega arith) (omega arith) (written-more s now new (omega arith) (so-far .2) e), held)
+
+-- Where a symbol ends, in numbers far from a word's last
+pub symbol-end-small : (s count size : ℕ) → count ≤ 64 → size ≤ 65536 → s < count → (s + 1) * size ≤ 4194304
+symbol-end-small s count size few small h =
+    let below : s + 1 ≤ 64 = omega arith in
+    omega (arith, mul-le-mul-right size below)

@@ -14,7 +14,7 @@ use Rattle.encoding.proofs.encode.Statement.{statement}
 use Rattle.encoding.proofs.encode.Tie as tie
 
 read-code-requires : tie.Need-read-code-requires
-read-code-requires c κs = search needs
+read-code-requires c κs = tt
 
 symbols-requires : tie.Need-symbols-requires
 symbols-requires c κs =
@@ -22,7 +22,7 @@ symbols-requires c κs =
     (omega (arith, small), omega (arith, small))
 
 encode-test-requires : tie.Need-encode-test-requires
-encode-test-requires c κs = search needs
+encode-test-requires c κs = tt
 
 enum-told : tie.Need-enum-told
 enum-told c = c .match .keys1

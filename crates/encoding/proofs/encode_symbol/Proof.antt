@@ -4,7 +4,7 @@ use mathlib.Core.Path.{_≡_, sym, ap, _∙_}
 use native.Mathlib.Omega.{arith}
 use mathlib.Core.Logic.{⊎-elim}
 use Rattle.gf2.proofs.SymbolLaws.{symbol-ends-within}
-use Rattle.encoding.proofs.EncodingLaws.{SummedSoFar, summed-so-far, encodedSymbol-none, encodedSymbol-has, encodedSymbol-lacks}
+use Rattle.encoding.proofs.EncodingLaws.{SummedSoFar, summed-so-far, encodedSymbol-none, encodedSymbol-has, encodedSymbol-lacks, symbol-end-small}
 use Rattle.gf2.specs.Stripes.{encodedSymbol}
 use Rattle.encoding.proofs.encode_symbol.Statement.{statement}
 use Rattle.encoding.proofs.encode_symbol.Tie as tie
@@ -25,20 +25,20 @@ loop-holds c =
     (c .before .before .clear .ensures ∙ encodedSymbol-none (args .size) (args .contents .now) (args .row) (args .target .now) (omega arith))
 
 has-requires : tie.Need-has-requires Inv-loop μ-loop
-has-requires c κs = omega arith
+has-requires c κs = omega (arith, c .before .before .before .before .before .before .before .before .pre .0, c .loop-test .taken)
 
 mul-add : tie.Need-mul-add Inv-loop μ-loop
 mul-add c =
-    let args = c .before .before .before .before .before .before .before .before .before .before .before .args in
-    omega (arith, symbol-ends-within (c .before .before .before .before .loop .t) (args .data-symbols) (args .size) (omega arith))
+    let start = c .before .before .before .before .before .before .before .before .before .before .before in
+    omega (arith, symbol-end-small (c .before .before .before .before .loop .t) (start .args .data-symbols) (start .args .size) (start .pre .0) (start .pre .1) (c .before .before .before .loop-test .taken))
 
 add-add : tie.Need-add-add Inv-loop μ-loop
-add-add c = omega arith
+add-add c = omega (arith, c .before .before .before .before .before .before .before .before .before .before .before .pre .0, c .before .before .before .loop-test .taken)
 
 mul-add-2 : tie.Need-mul-add-2 Inv-loop μ-loop
 mul-add-2 c =
-    let args = c .before .before .before .before .before .before .before .before .before .before .before .args in
-    omega (arith, symbol-ends-within (c .before .before .before .before .loop .t) (args .data-symbols) (args .size) (omega arith))
+    let start = c .before .before .before .before .before .before .before .before .before .before .before in
+    omega (arith, symbol-end-small (c .before .before .before .before .loop .t) (start .args .data-symbols) (start .args .size) (start .pre .0) (start .pre .1) (c .before .before .before .loop-test .taken))
 
 sub-add : tie.Need-sub-add Inv-loop μ-loop
 sub-add c = omega arith
@@ -48,25 +48,26 @@ part-add-start c = omega arith
 
 part-add-end : tie.Need-part-add-end Inv-loop μ-loop
 part-add-end c =
-    let args = c .before .before .before .before .before .before .before .before .before .before .before .args in
-    omega (arith, symbol-ends-within (c .before .before .before .before .loop .t) (args .data-symbols) (args .size) (omega arith))
+    let start = c .before .before .before .before .before .before .before .before .before .before .before in
+    omega (arith, symbol-ends-within (c .before .before .before .before .loop .t) (start .args .data-symbols) (start .args .size) (c .before .before .before .loop-test .taken), start .pre .2)
 
 add-requires : tie.Need-add-requires Inv-loop μ-loop
 add-requires c κs = omega arith
 
 add-t : tie.Need-add-t Inv-loop μ-loop
-add-t c = omega arith
+add-t c = omega (arith, c .before .before .before .before .before .before .before .before .before .before .pre .0, c .before .before .loop-test .taken)
 
 loop-less : tie.Need-loop-less Inv-loop μ-loop
-loop-less c = omega arith
+loop-less c = omega (arith, c .before .before .loop-test .taken)
 
 loop-again : tie.Need-loop-again Inv-loop μ-loop
 loop-again c =
-    let args = c .before .before .before .before .before .before .before .before .before .before .args in
+    let start = c .before .before .before .before .before .before .before .before .before .before in
+    let args = start .args in
     let bytes = args .contents .now in
     let loop = c .before .before .before .loop in
     let bit = sym (c .before .has .ensures) in
-    summed-so-far (args .data-symbols) (args .size) bytes (args .row) (c .if1 .target) (loop .t + 1) (omega arith) (omega arith)
+    summed-so-far (args .data-symbols) (args .size) bytes (args .row) (c .if1 .target) (loop .t + 1) (start .pre .2) (omega (arith, c .before .before .loop-test .taken))
     (⊎-elim
     (λ w. encodedSymbol-has (args .size) bytes (args .row) (loop .t) (loop .target) (c .if1 .target) (bit ∙ w .0 .taken) (loop .inv .2) (w .6 ∙ w .3 .ensures))
     (λ w. w .1 ∙ encodedSymbol-lacks (args .size) bytes (args .row) (loop .t) (loop .target) (bit ∙ w .0 .left) (loop .inv .2))
@@ -78,7 +79,7 @@ same-length c = omega arith
 returns : tie.Need-returns Inv-loop μ-loop
 returns c =
     let args = c .before .before .before .before .before .before .before .before .args in
-    let all : c .before .loop .t ≡ args .data-symbols = omega arith in
+    let all : c .before .loop .t ≡ args .data-symbols = omega (arith, c .before .loop .inv .0, c .loop-test .left) in
     c .before .loop .inv .2 ∙ ap (encodedSymbol (args .size) (args .contents .now) (args .row)) all
 
 pub encode-symbol-spec : {M : Type 1} → statement M

@@ -6,7 +6,7 @@ use lib.ListN.{length}
 use borrow.Kind.Array.{good-length, eInt}
 use mir.Syntax.{w64}
 use Rattle.gf2.proofs.SymbolLaws.{symbol-ends-within}
-use Rattle.encoding.proofs.EncodingLaws.{WrittenSoFar, written-so-far, writtenTo, written-none, written-more, written-all}
+use Rattle.encoding.proofs.EncodingLaws.{WrittenSoFar, written-so-far, writtenTo, written-none, written-next, written-all, symbol-end-small}
 use Rattle.encoding.proofs.encode_symbols.Statement.{statement}
 use Rattle.encoding.proofs.encode_symbols.Tie as tie
 
@@ -20,32 +20,33 @@ abbrev μ-loop : tie.MeasureT-loop
 loop-holds : tie.Need-loop-holds Inv-loop μ-loop
 loop-holds c =
     let args = c .before .before .args in
+    let pre = c .before .before .pre in
     let held : length (args .t1) ≡ 64 = good-length (eInt w64) 64 (args .t1) _ (c .before .before .good .0) in
     let bytes = args .contents .now in
     let stripe = args .stripe .now in (
-      written-so-far (args .size) (args .data-symbols) (args .t1) bytes stripe (omega arith) (args .symbols) stripe 0 (omega arith) (omega arith) (omega arith)
-          (written-none (args .size) (args .data-symbols) (args .t1) bytes stripe (omega arith)),
+      written-so-far (args .size) (args .data-symbols) (args .t1) bytes stripe (pre .3) (args .symbols) stripe 0 (pre .4) (omega (arith, pre .0)) (omega arith)
+          (written-none (args .size) (args .data-symbols) (args .t1) bytes stripe (pre .3)),
       held,
     )
 
 mul-encode-symbol : tie.Need-mul-encode-symbol Inv-loop μ-loop
-mul-encode-symbol c = omega arith
+mul-encode-symbol c = omega (arith, c .before .before .before .before .pre .0, c .loop-test .taken)
 
 array-read-encode-symbol : tie.Need-array-read-encode-symbol Inv-loop μ-loop
-array-read-encode-symbol c = omega arith
+array-read-encode-symbol c = omega (arith, c .before .before .before .before .pre .0, c .loop-test .taken)
 
 mul-encode-symbol-2 : tie.Need-mul-encode-symbol-2 Inv-loop μ-loop
 mul-encode-symbol-2 c =
-    let args = c .before .before .before .before .args in
-    omega (arith, symbol-ends-within (c .before .loop .s) (args .symbols) (args .size) (omega arith))
+    let start = c .before .before .before .before in
+    omega (arith, symbol-end-small (c .before .loop .s) (start .args .symbols) (start .args .size) (start .pre .0) (start .pre .2) (c .loop-test .taken))
 
 add-encode-symbol : tie.Need-add-encode-symbol Inv-loop μ-loop
-add-encode-symbol c = omega arith
+add-encode-symbol c = omega (arith, c .before .before .before .before .pre .0, c .loop-test .taken)
 
 mul-encode-symbol-3 : tie.Need-mul-encode-symbol-3 Inv-loop μ-loop
 mul-encode-symbol-3 c =
-    let args = c .before .before .before .before .args in
-    omega (arith, symbol-ends-within (c .before .loop .s) (args .symbols) (args .size) (omega arith))
+    let start = c .before .before .before .before in
+    omega (arith, symbol-end-small (c .before .loop .s) (start .args .symbols) (start .args .size) (start .pre .0) (start .pre .2) (c .loop-test .taken))
 
 sub-encode-symbol : tie.Need-sub-encode-symbol Inv-loop μ-loop
 sub-encode-symbol c = omega arith
@@ -55,29 +56,27 @@ part-encode-symbol-start c = omega arith
 
 part-encode-symbol-end : tie.Need-part-encode-symbol-end Inv-loop μ-loop
 part-encode-symbol-end c =
-    let args = c .before .before .before .before .args in
-    omega (arith, symbol-ends-within (c .before .loop .s) (args .symbols) (args .size) (omega arith))
+    let start = c .before .before .before .before in
+    omega (arith, symbol-ends-within (c .before .loop .s) (start .args .symbols) (start .args .size) (c .loop-test .taken), start .pre .4, c .before .loop .inv .0 .1)
 
 encode-symbol-requires : tie.Need-encode-symbol-requires Inv-loop μ-loop
-encode-symbol-requires c κs = omega arith
+encode-symbol-requires c κs =
+    let pre = c .before .before .before .before .before .pre in
+    (pre .1, pre .2, pre .3, omega arith)
 
 add-s : tie.Need-add-s Inv-loop μ-loop
-add-s c = omega arith
+add-s c = omega (arith, c .before .before .before .before .before .before .before .before .pre .0, c .before .before .before .before .loop-test .taken)
 
 loop-less : tie.Need-loop-less Inv-loop μ-loop
-loop-less c = omega arith
+loop-less c = omega (arith, c .before .before .before .before .loop-test .taken)
 
 loop-again : tie.Need-loop-again Inv-loop μ-loop
 loop-again c =
-    let args = c .before .before .before .before .before .before .before .before .args in
+    let start = c .before .before .before .before .before .before .before .before in
+    let args = start .args in
     let loop = c .before .before .before .before .before .loop in
-    let bytes = args .contents .now in
-    let stripe = args .stripe .now in (
-      written-so-far (args .size) (args .data-symbols) (args .t1) bytes stripe (omega arith) (args .symbols) _ (loop .s + 1) (omega arith) (omega arith) (omega arith)
-          (written-more (args .size) (args .data-symbols) (args .t1) bytes stripe (omega arith) (loop .s) (loop .stripe) _ (omega arith) (loop .inv .0 .2)
-          (c .before .before .encode-symbol .ensures)),
-      loop .inv .1,
-    )
+    written-next (args .size) (args .data-symbols) (args .t1) (args .contents .now) (args .stripe .now) (start .pre .3) (args .symbols) (loop .stripe) _ (loop .s)
+    (start .pre .0) (start .pre .4) (c .before .before .before .before .loop-test .taken) (loop .inv) (c .before .before .encode-symbol .ensures)
 
 same-length : tie.Need-same-length Inv-loop μ-loop
 same-length c = omega arith
@@ -85,12 +84,13 @@ same-length c = omega arith
 returns : tie.Need-returns Inv-loop μ-loop
 returns c =
     let args = c .before .before .before .before .args in
+    let pre = c .before .before .before .before .pre in
     let loop = c .before .loop in
-    let all : loop .s ≡ args .symbols = omega arith in
+    let all : loop .s ≡ args .symbols = omega (arith, loop .inv .0 .0, c .loop-test .left) in
     let bytes = args .contents .now in
     let stripe = args .stripe .now in
     loop .inv .0 .2 ∙ ap (writtenTo (args .size) (args .data-symbols) (args .t1) bytes stripe) all
-    ∙ written-all (args .size) (args .data-symbols) (args .t1) bytes stripe (omega arith) (args .symbols) (omega arith)
+    ∙ written-all (args .size) (args .data-symbols) (args .t1) bytes stripe (pre .3) (args .symbols) (pre .4)
 
 pub encode-symbols-spec : {M : Type 1} → statement M
 encode-symbols-spec =

@@ -4,7 +4,6 @@ use mathlib.Core.Path.{_≡_, refl, sym, _∙_}
 use mathlib.Core.Bool.{true, false}
 use native.Mathlib.Nat.{zero-add}
 use native.Mathlib.Omega.{arith}
-use borrow.Author.Needs.{needs}
 use borrow.Author.Count.{below-none, below-more}
 use Rattle.sheets.specs.CodeReading.{strayAt}
 use Rattle.gf2.proofs.SearchLaws.{firstFrom-none, firstFrom-found}
@@ -26,37 +25,38 @@ abbrev μ-search : tie.MeasureT-search
 μ-search symbols data-symbols rows row₀ place₀ row place = symbols - row
 
 mul-place : tie.Need-mul-place Inv-loop μ-loop Inv-search μ-search
-mul-place c = omega arith
+mul-place c = omega (arith, c .pre .0)
 
 search-holds : tie.Need-search-holds Inv-loop μ-loop Inv-search μ-search
-search-holds c = (search needs, refl, below-none _)
+search-holds c = (omega arith, refl, below-none _)
 
 mul-bits : tie.Need-mul-bits Inv-loop μ-loop Inv-search μ-search
-mul-bits c = omega arith
+mul-bits c = omega (arith, c .before .before .pre .0, c .search-test .taken)
 
 array-read-bits : tie.Need-array-read-bits Inv-loop μ-loop Inv-search μ-search
-array-read-bits c = omega arith
+array-read-bits c = omega (arith, c .before .before .pre .0, c .search-test .taken)
 
 loop-holds : tie.Need-loop-holds Inv-loop μ-loop Inv-search μ-search
 loop-holds c =
     let rows = c .before .before .args .t1 in
     let data-symbols = c .before .before .args .data-symbols in
-    (omega arith, omega arith, omega arith, skip-low-bits rows data-symbols (c .before .search .row) (omega arith) (c .before .search .inv .2))
+    let data-to = c .before .before .pre .1 in
+    (omega arith, data-to, c .before .search .inv .1, skip-low-bits rows data-symbols (c .before .search .row) data-to (c .before .search .inv .2))
 
 has-requires : tie.Need-has-requires Inv-loop μ-loop Inv-search μ-search
-has-requires c κs = omega arith
+has-requires c κs = omega (arith, c .loop-test .taken)
 
 mul-place-2 : tie.Need-mul-place-2 Inv-loop μ-loop Inv-search μ-search
-mul-place-2 c = omega arith
+mul-place-2 c = omega (arith, c .before .before .before .before .before .before .pre .0, c .before .before .before .before .search-test .taken)
 
 add-place : tie.Need-add-place Inv-loop μ-loop Inv-search μ-search
-add-place c = omega arith
+add-place c = omega (arith, c .before .before .before .before .before .before .pre .0, c .before .before .before .before .search-test .taken, c .before .before .loop-test .taken)
 
 add-bit : tie.Need-add-bit Inv-loop μ-loop Inv-search μ-search
-add-bit c = omega arith
+add-bit c = omega (arith, c .before .before .loop-test .taken)
 
 loop-less : tie.Need-loop-less Inv-loop μ-loop Inv-search μ-search
-loop-less c = omega arith
+loop-less c = omega (arith, c .before .before .loop-test .taken)
 
 loop-again : tie.Need-loop-again Inv-loop μ-loop Inv-search μ-search
 loop-again c =
@@ -64,20 +64,22 @@ loop-again c =
     let data-symbols = c .before .before .before .before .before .before .args .data-symbols in
     let row = c .before .before .before .before .before .search .row in
     let bit = c .before .before .before .loop .bit in
+    let from = c .before .before .before .loop .inv .0 in
+    let below : bit < 64 = omega (arith, c .before .before .loop-test .taken) in
     let here : strayAt rows data-symbols (row * 64 + bit) ≡ false =
-    strayAt-high rows data-symbols row bit (omega arith) (omega arith) ∙ sym (c .before .has .ensures) ∙ c .if1 .left in
+    strayAt-high rows data-symbols row bit below from ∙ sym (c .before .has .ensures) ∙ c .if1 .left in
     let none : (j : ℕ) → j < row * 64 + bit + 1 → strayAt rows data-symbols j ≡ false =
     below-more _ _ (c .before .before .before .loop .inv .3) here in
-    (omega arith, omega arith, omega arith, λ j l. none j (omega arith))
+    (omega (arith, from), omega (arith, below), c .before .before .before .loop .inv .2, λ j l. none j (omega (arith, l)))
 
 add-row : tie.Need-add-row Inv-loop μ-loop Inv-search μ-search
-add-row c = omega arith
+add-row c = omega (arith, c .before .before .before .before .pre .0, c .before .before .search-test .taken)
 
 search-less : tie.Need-search-less Inv-loop μ-loop Inv-search μ-search
-search-less c = omega arith
+search-less c = omega (arith, c .before .before .search-test .taken)
 
 search-again : tie.Need-search-again Inv-loop μ-loop Inv-search μ-search
-search-again c = (omega arith, omega arith, λ j l. c .before .loop .inv .3 j (omega arith))
+search-again c = (omega (arith, c .before .before .search-test .taken), c .before .loop .inv .2, λ j l. c .before .loop .inv .3 j (omega (arith, l, c .loop-test .left)))
 
 returns : tie.Need-returns Inv-loop μ-loop Inv-search μ-search
 returns c =
@@ -85,7 +87,7 @@ returns c =
     ∙ sym (zero-add _)
     ∙ sym
     (firstFrom-none (strayAt (c .before .before .args .t1) (c .before .before .args .data-symbols)) (c .before .before .args .symbols * 64) 0
-    (λ j a l. c .before .search .inv .2 j (omega arith)))
+    (λ j a l. c .before .search .inv .2 j (omega (arith, l, c .search-test .left))))
 
 returns-2 : tie.Need-returns-2 Inv-loop μ-loop Inv-search μ-search
 returns-2 c =
@@ -93,11 +95,13 @@ returns-2 c =
     let data-symbols = c .before .before .before .before .before .before .args .data-symbols in
     let row = c .before .before .before .before .before .search .row in
     let bit = c .before .before .before .loop .bit in
+    let from = c .before .before .before .loop .inv .0 in
+    let below : bit < 64 = omega (arith, c .before .before .loop-test .taken) in
     let here : strayAt rows data-symbols (row * 64 + bit) ≡ true =
-    strayAt-high rows data-symbols row bit (omega arith) (omega arith) ∙ sym (c .before .has .ensures) ∙ c .if1 .taken in
+    strayAt-high rows data-symbols row bit below from ∙ sym (c .before .has .ensures) ∙ c .if1 .taken in
     sym
     (firstFrom-found (strayAt rows data-symbols) (c .before .before .before .before .before .before .args .symbols * 64) 0
-    (row * 64 + bit) (omega arith) (omega arith) (λ j a l. c .before .before .before .loop .inv .3 j l) here)
+    (row * 64 + bit) (omega arith) (omega (arith, c .before .before .before .before .search-test .taken, below)) (λ j a l. c .before .before .before .loop .inv .3 j l) here)
 
 pub first-stray-spec : {M : Type 1} → statement M
 first-stray-spec =
