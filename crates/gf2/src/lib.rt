@@ -3,7 +3,7 @@
 // so that the width of a set is known here alone.
 ghost use mathlib.Core.Path.{_≡_};
 ghost use Prim.Native.Nat.{_<_};
-ghost use lib.Bits.{bitAnd, bitXor};
+ghost use lib.Bits.{bitAnd, bitOr, bitXor};
 ghost use lib.Dec.{eqb};
 ghost use Rattle.gf2.specs.BitSets.{has, with, count, overlap};
 
@@ -67,6 +67,13 @@ pub fn common(a: BitSet, b: BitSet) -> BitSet
     ensures { λ r. ⌜ r ≡ bitAnd a b ⌝ }
 {
     a & b
+}
+
+// The elements of either set.
+pub fn union(a: BitSet, b: BitSet) -> BitSet
+    ensures { λ r. ⌜ r ≡ bitOr a b ⌝ }
+{
+    a | b
 }
 
 // Whether two sets share an odd number of elements.
