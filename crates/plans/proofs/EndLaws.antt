@@ -125,9 +125,9 @@ count-by-bits set (suc place) = count-by-bits set place ∙ by-bit (has set plac
         let next : set / 2 ^ (place + 1) ≡ set / 2 ^ suc place = ap (λ (n : ℕ). set / 2 ^ n) (add-one place) in
         omega (arith, count-above-lacks set place q, ap count next)
 
--- The count of a set of 64 bits is how many it has
-pub count-is-howMany : (set : ℕ) → set < 2 ^ 64 → count set ≡ howMany 64 (has set)
-count-is-howMany set h = omega (arith, count-by-bits set 64, count-above-width 64 set h)
+-- The count of a set of `width` bits is how many it has
+pub count-is-howMany : (width set : ℕ) → set < 2 ^ width → count set ≡ howMany width (has set)
+count-is-howMany width set h = omega (arith, count-by-bits set width, count-above-width width set h)
 
 -- What a set of 64 bits shares with another has 64 bits
 common-below : (a b : ℕ) → a < 2 ^ 64 → bitAnd a b < 2 ^ 64
@@ -165,7 +165,7 @@ module _ (layout : Layout) (disk : ℕ) (fits : symbolsOf layout ≤ 64) (surviv
   -- The count of the places read that survive is the true read count
   pub count-is-true : count (bitAnd sources survivors) ≡ trueReadCount layout disk steps
   count-is-true =
-      count-is-howMany (bitAnd sources survivors) (common-below sources survivors sources-below)
+      count-is-howMany 64 (bitAnd sources survivors) (common-below sources survivors sources-below)
       ∙ howMany-same 64 (has (bitAnd sources survivors)) (λ s. survives layout disk s && readByAny s steps) read-and-surviving
       ∙ ap (λ (n : ℕ). howMany n (λ s. survives layout disk s && readByAny s steps)) whole
       ∙ howMany-behind (symbolsOf layout) (64 - symbolsOf layout) (λ s. survives layout disk s && readByAny s steps)

@@ -145,7 +145,7 @@ lost-or-survives layout disk s h = by-disk (onDisk layout disk s) refl
 
 module _ (layout : Layout) (disk : ℕ) (disk-below : disk < layout .disks) where
   -- Each row of the disk is lost
-  row-is-lost : (row : ℕ) → row < heightOf layout disk → lost layout disk (firstSymbol layout disk + row) ≡ true
+  pub row-is-lost : (row : ℕ) → row < heightOf layout disk → lost layout disk (firstSymbol layout disk + row) ≡ true
   row-is-lost row h =
       let s = firstSymbol layout disk + row in
       let in-array : s < symbolsOf layout = omega (arith, strip-within layout disk disk-below) in
@@ -154,7 +154,7 @@ module _ (layout : Layout) (disk : ℕ) (disk-below : disk < layout .disks) wher
       (onDisk-above layout disk s (omega arith) ∙ lt-ltb _ _ in-strip)
 
   -- Each lost symbol is a row of the disk
-  lost-in-strip : (s : ℕ) → lost layout disk s ≡ true → (firstSymbol layout disk ≤ s) × (s < firstSymbol layout disk + heightOf layout disk)
+  pub lost-in-strip : (s : ℕ) → lost layout disk s ≡ true → (firstSymbol layout disk ≤ s) × (s < firstSymbol layout disk + heightOf layout disk)
   lost-in-strip s is-lost = by-side (decLe (firstSymbol layout disk) s)
     where
       on : onDisk layout disk s ≡ true

@@ -1,0 +1,3 @@
+pub mod PlanSheetLaws
+pub mod SourceLaws
+pub mod StepsWrittenLaws
