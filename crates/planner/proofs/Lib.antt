@@ -1,0 +1,5 @@
+pub mod StretchLaws
+pub mod StripLaws
+pub mod WorkLaws
+pub mod ResultLaws
+pub mod CallLaws
