@@ -1,15 +1,16 @@
 -- Every case of the table is right: closed cases compute, and the array that can't be rebuilt follows from its pattern. Assumes nothing.
-use mathlib.Core.Path.{_≡_, refl, sym, subst}
+use mathlib.Core.Path.{_≡_, refl, sym, ap, subst, _∙_}
 use mathlib.Core.Bool.{true, false, false≢true}
 use mathlib.Core.List.{List, [], _∷_}
-use Prim.Native.Nat.{ℕ, zero, suc, _<_, _^_}
+use Prim.Native.Nat.{ℕ, zero, suc, _≤_, _<_, _^_}
 use native.Mathlib.Omega.{arith}
-use lib.ListN.{length, getD}
-use borrow.Author.Tests.{ltb-true}
-use Rattle.cases.specs.Cases.{square, apart, emptyRow, table, AllRight, CannotBeRebuilt}
+use lib.ListN.{length, getD, replicate}
+use borrow.Author.Tests.{ltb-true, le-ltb}
+use Rattle.cases.specs.Cases.{square, apart, emptyRow, table, AllRight}
 use Rattle.plans.specs.Check.{checked, checkVerdict}
 use Rattle.plans.specs.Judgement.{lost, survives, stepsVerdict, readByAny, howMany, bodyVerdict}
 use Rattle.plans.specs.Plans.{sheetSteps}
+use Rattle.plans.proofs.JudgementLaws.{length-matrix, matrix-below, lost-below}
 use Rattle.plans.proofs.PatternLaws.{zero-on-survivors, one-on-lost, no-plan-if-pattern-odd}
 use Rattle.codes.specs.Codes.{rowsOf, matrix, WithinLimits}
 use Rattle.codes.specs.Layouts.{symbolsOf, firstSymbol, heightOf, onDisk}
@@ -18,16 +19,23 @@ use Rattle.codes.proofs.RowLaws.{length-rowsOf, getD-rowsOf-behind, rowsOf-belo
 use Rattle.encoding.specs.Encoding.{encodedStripe, encodeVerdict}
 use Rattle.family_codes.specs.Families.{familyCode, familyRow, diskRow, unit, sumOver, extraEntry, diagonalEntry}
 use Rattle.gf2.proofs.Booleans.{and-left}
+use Rattle.gf2.proofs.OverlapLaws.{overlap-zero-left}
+use Rattle.gf2.proofs.StripeLaws.{symbol-patternStripe}
 use Rattle.gf2.specs.BitSets.{has, with, overlap, count, countIn}
 use Rattle.gf2.specs.Lists.{tabulate, firstFrom}
 use Rattle.gf2.specs.Plans.{run, filledAfter}
-use Rattle.gf2.specs.Stripes.{encoding, encodedSymbol, xorBytes, putSymbol, runOnStripe}
+use Rattle.gf2.specs.Stripes.{symbol, patternStripe, encoding, encodedSymbol, xorBytes, putSymbol, runOnStripe}
 use Rattle.lines.specs.Lines.{deskText, codeSheetIn, planSheetIn, sheetLengthIn}
+use Rattle.planner.specs.Demand3.{GoodPattern, CannotBeRebuilt, Promised}
+use Rattle.planner.specs.Planning.{planningFaults, planningVerdict}
+use Rattle.planner.specs.declared.Planned.{Planned}
 use Rattle.texts.specs.Decimals.{decimal, digits}
 use Rattle.texts.specs.Lines.{labelled, codeLine, diskLine, acceptedLines}
 use Rattle.rebuild.specs.Rebuild.{stripeAfter, rebuildVerdict}
-use Rattle.refusals.specs.Orders.{orIf}
-use Rattle.refusals.specs.declared.Verdict.the-variants.{Fine}
+use Rattle.refusals.specs.Orders.{orIf, andThen}
+use Rattle.refusals.proofs.OrderLaws.{refused-is-not-fine}
+use Rattle.refusals.specs.declared.Verdict.the-variants as Verdicts
+use Rattle.planner.specs.declared.Planned.the-variants as Plans
 use Rattle.sheets.specs.Bytes.{lowFirst, lowBytes}
 use Rattle.sheets.specs.CodeReading.{codeVerdict, reading, strayAt}
 use Rattle.sheets.specs.CodeSheets.{rowBytes, rowIn, codeIn}
@@ -47,7 +55,7 @@ unfolding rowOfApart
 codeOfApart = record { layout = record { disks = 2; height = 1 }; data_symbols = 2; rows = rowsOf 2 rowOfApart }
 
 -- Its sheet is read as that code
-apart-read : reading apart ≡ record { verdict = Fine; code = codeOfApart }
+apart-read : reading apart ≡ record { verdict = Verdicts.Fine; code = codeOfApart }
 unfolding apart codeOfApart rowOfApart rowBytes lowBytes lowFirst reading codeVerdict codeIn rowIn rowsOf tabulate strayAt firstFrom has orIf
 apart-read = refl
 
@@ -110,6 +118,52 @@ p8 : CannotBeRebuilt (reading apart .code) 0 1
 p8 = subst (λ (r : Reading). CannotBeRebuilt (r .code) 0 1) (sym apart-read) apart-cannot
 
 -- ------------------------------------------------------------------
+-- P8, as planning's answer
+
+-- Any good pattern overlaps each row as its stripe tells
+overlap-told : (pattern s bit : ℕ) → s < 2 → symbol 1 (patternStripe 1 2 (matrix codeOfApart) pattern) s ≡ replicate 1 bit
+    → overlap pattern (getD (matrix codeOfApart) s 0) ≡ bit
+unfolding codeOfApart symbolsOf
+overlap-told pattern s bit below told =
+    ap (λ (l : List ℕ). getD l 0 0)
+    (sym (symbol-patternStripe 1 2 (matrix codeOfApart) pattern s (matrix-below codeOfApart apart-within 0 apart-disk)
+    (omega (arith, length-matrix codeOfApart apart-within 0 apart-disk)))
+    ∙ told)
+
+-- The only good pattern is 1
+only-pattern : (pattern : ℕ) → GoodPattern codeOfApart 0 pattern → pattern ≡ 1
+unfolding codeOfApart rowOfApart symbolsOf firstSymbol heightOf onDisk rowsOf tabulate overlap count countIn
+only-pattern zero good =
+    let odd = overlap-told 0 (good .shown-at) 1 (lost-below (codeOfApart .layout) 0 (good .shown-at) (good .shown-lost)) (good .not-zero 1) in
+    absurd (omega (arith, overlap-zero-left (getD (matrix codeOfApart) (good .shown-at) 0)))
+only-pattern (suc zero) good = refl
+only-pattern (suc (suc zero)) good =
+    let even : overlap 2 2 ≡ 0 = overlap-told 2 1 0 (omega arith) (good .zero-on-survivors 1 1 refl) in
+    absurd (omega arith)
+only-pattern (suc (suc (suc zero))) good =
+    let even : overlap 3 2 ≡ 0 = overlap-told 3 1 0 (omega arith) (good .zero-on-survivors 1 1 refl) in
+    absurd (omega arith)
+only-pattern (suc (suc (suc (suc pattern)))) good =
+    let below = good .bits in
+    absurd (omega arith)
+
+-- Planning refuses nothing
+apart-planned : (before : List ℕ) → 3081 ≤ length before → planningVerdict apart 0 (length before) ≡ Verdicts.Fine
+unfolding planningVerdict codeOfApart orIf
+apart-planned before room =
+    ap (λ (r : Reading). andThen (r .verdict) (planningFaults (r .code .layout .disks) 0 (length before))) apart-read
+    ∙ rw (le-ltb (length before) 3081 room)
+
+-- P8, of planning: a plan would be accepted, which none is, and only 1 is a good pattern
+p8-planned : (before after : List ℕ) (given : Planned) → 3081 ≤ length before → Promised apart 0 before after given → given ≡ Plans.Pattern 1
+p8-planned before after (Plans.Plan size reads) room promised =
+    let some = promised .1 .1 .1 (apart-planned before room) .0 tt in
+    absurd (p8 .0 (some .plan) (some .accepted))
+p8-planned before after (Plans.Pattern pattern) room promised =
+    ap Plans.Pattern (only-pattern pattern (subst (λ (r : Reading). GoodPattern (r .code) 0 pattern) apart-read (promised .1 .1 .0 .1)))
+p8-planned before after (Plans.Refused refusal) room promised = absurd (refused-is-not-fine (promised .0 ∙ apart-planned before room))
+
+-- ------------------------------------------------------------------
 -- P1: the stripe's length is all that counts of what it held
 
 p1 : (before : List ℕ) → length before ≡ 8
@@ -143,14 +197,17 @@ all-right = (
                   (
                     p8,
                     (
-                      refl,
+                      p8-planned,
                       (
-                        (refl, (refl, (refl, (refl, (refl, (refl, (refl, (refl, tt)))))))),
+                        refl,
                         (
-                          (refl, tt),
+                          (refl, (refl, (refl, (refl, (refl, (refl, (refl, (refl, tt)))))))),
                           (
                             (refl, tt),
-                            tt,
+                            (
+                              (refl, tt),
+                              tt,
+                            ),
                           ),
                         ),
                       ),

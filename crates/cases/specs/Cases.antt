@@ -1,28 +1,24 @@
 -- The worked cases that document 01 marks P, gathered in a single table under one claim, `AllRight table`.
 use mathlib.Core.Path.{_≡_}
-use mathlib.Core.Bool.{true}
 use mathlib.Core.List.{List, [], _∷_, _++_}
-use Prim.Native.Nat.{ℕ, suc, _<_, _^_}
-use lib.ListN.{getD, length, replicate}
+use Prim.Native.Nat.{ℕ, suc, _≤_}
+use lib.ListN.{getD, length}
 use Rattle.plans.specs.Check.{checked}
-use Rattle.plans.specs.Judgement.{lost, survives, planVerdict}
-use Rattle.plans.specs.Plans.{Plan}
 use Rattle.plans.specs.declared.Checked.{Checked}
-use Rattle.codes.specs.Codes.{matrix}
-use Rattle.codes.specs.declared.Code.{Code}
 use Rattle.encoding.specs.Encoding.{encodedStripe}
 use Rattle.family_codes.specs.Families.{familyCode}
 use Rattle.family_codes.specs.declared.Family.{Family}
 use Rattle.family_codes.specs.declared.Family.the-variants.{Liberation, RowDiagonal}
 use Rattle.gf2.specs.BitSets.{with}
-use Rattle.gf2.specs.Stripes.{symbol, patternStripe}
 use Rattle.lines.specs.Lines.{deskText}
+use Rattle.planner.specs.Demand3.{CannotBeRebuilt, Promised}
+use Rattle.planner.specs.declared.Planned.{Planned}
 use Rattle.rebuild.specs.Rebuild.{stripeAfter}
 use Rattle.refusals.specs.declared.Refusal.the-variants.{TargetNotLost, UnfilledPlaceUsed, NeverFilled, EndsWrong, WrongReadCount}
-use Rattle.refusals.specs.declared.Verdict.the-variants.{Fine}
 use Rattle.sheets.specs.CodeReading.{reading}
 use Rattle.sheets.specs.CodeSheets.{rowBytes}
 use Rattle.plans.specs.declared.Checked.the-variants as Answers
+use Rattle.planner.specs.declared.Planned.the-variants as Plans
 
 -- ------------------------------------------------------------------
 -- Sheets
@@ -70,19 +66,8 @@ pub data Case : Type 0 where
   rows-from : Family → ℕ → List ℕ → Case
   -- The disk of a code sheet can't be rebuilt: no plan of any length would be accepted, and the pattern is a good one
   pattern-of : List ℕ → ℕ → ℕ → Case
-
--- A good pattern: for every symbol length its stripe is zero on every surviving symbol and not zero on the lost disk
-pub record GoodPattern (code : Code) (disk pattern : ℕ) : Type 0 where
-  pub bits : pattern < 2 ^ code .data_symbols
-  pub zero-on-survivors : (L s : ℕ) → survives (code .layout) disk s ≡ true
-      → symbol L (patternStripe L (code .data_symbols) (matrix code) pattern) s ≡ replicate L 0
-  pub shown-at : ℕ
-  pub shown-lost : lost (code .layout) disk shown-at ≡ true
-  pub not-zero : (L : ℕ) → symbol L (patternStripe L (code .data_symbols) (matrix code) pattern) shown-at ≡ replicate L 1
-
--- A disk can't be rebuilt: no plan of any length would be accepted, and the pattern is a good one
-abbrev pub CannotBeRebuilt : Code → ℕ → ℕ → Type 0
-CannotBeRebuilt code disk pattern = ((plan : Plan) → planVerdict code disk plan ≡ Fine → ⊥) × GoodPattern code disk pattern
+  -- Planning for a code sheet and a disk can only answer so: no other answer keeps what the call promises
+  plans : List ℕ → ℕ → Planned → Case
 
 -- The entries of a list from an index on, as many as there are on the right
 abbrev pub From : List ℕ → ℕ → List ℕ → Type 0
@@ -97,6 +82,8 @@ Right (rebuilds codeSheet disk planSheet L before after) = stripeAfter codeSheet
 Right (prints input text) = deskText input ≡ text
 Right (rows-from family at rows) = From (familyCode family .rows) at rows
 Right (pattern-of codeSheet disk pattern) = CannotBeRebuilt (reading codeSheet .code) disk pattern
+Right (plans codeSheet disk answer) =
+    (before after : List ℕ) (given : Planned) → 3081 ≤ length before → Promised codeSheet disk before after given → given ≡ answer
 
 abbrev pub AllRight : List Case → Type 0
 AllRight [] = Unit {0}
@@ -135,8 +122,10 @@ table =
     ∷ answers square 0 (squarePlan 3 1 2 7) (Answers.Refused (TargetNotLost 0))
     -- P7: no steps
     ∷ answers square 0 (6 ∷ 1 ∷ 4 ∷ 2 ∷ 4 ∷ 0 ∷ 3 ∷ 0 ∷ 0 ∷ []) (Answers.Refused (NeverFilled 0))
-    -- P8
+    -- P8: no plan; the pattern is 1
     ∷ pattern-of apart 0 1
+    -- .. and planning answers it
+    ∷ plans apart 0 (Plans.Pattern 1)
     -- P9: one clear, 0 reads
     ∷ answers emptyRow 0 (6 ∷ 1 ∷ 2 ∷ 1 ∷ 1 ∷ 0 ∷ 0 ∷ 1 ∷ 0 ∷ 0 ∷ 0 ∷ 0 ∷ []) (Answers.Accepted 0)
     -- P10
