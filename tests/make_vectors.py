@@ -1,4 +1,5 @@
-"""Writes crates/vectors/stdin and crates/vectors/stdout anew: records, and the lines that the second program expects.
+"""Writes crates/vectors/stdin and crates/vectors/stdout anew: records, and the lines that the second program expects. Then it
+writes crates/planvectors/stdin anew, the records of planning, for which it expects no line: their answers are judged.
 
     python3 tests/make_vectors.py
 
@@ -13,6 +14,7 @@ import second
 from arrays import SMALLEST, SPECIAL_CODES, below, random_bytes, random_code, random_codes, random_row
 from desk_vectors import add_desk_vectors
 from plan_vectors import add_plan_vectors
+from planner_vectors import write_planner_vectors
 from rebuild_vectors import add_rebuild_vectors
 from records import ROOM, Vectors
 from second import Code, changed
@@ -311,9 +313,13 @@ def main() -> None:
     add_rebuild_vectors(vectors)
     (CRATE / "stdin").write_bytes(b"".join(vectors.records))
     (CRATE / "stdout").write_text("".join(line + "\n" for line in vectors.lines))
+    questions = write_planner_vectors()
     for kind, count in vectors.kinds.items():
         print(f"{count:5} {kind}")
     print(f"{len(vectors.records):5} records")
+    for kind, count in questions.kinds.items():
+        print(f"{count:5} planning, {kind}")
+    print(f"{len(questions.records):5} records of planning, about {questions.kinds.total()} disks")
 
 
 if __name__ == "__main__":

@@ -1,0 +1,77 @@
+-- `planvectors::answer` ends, since the disks that are left are counted down. Assumes nothing.
+use native.Mathlib.Omega.{arith}
+use Rattle.planvectors.proofs.answer.Statement.{statement}
+use Rattle.planvectors.proofs.answer.Tie as tie
+
+abbrev Inv-loop : tie.InvT-loop
+Inv-loop «record» left₀ disk₀ left disk = Unit
+
+abbrev μ-loop : tie.MeasureT-loop
+μ-loop «record» left₀ disk₀ left disk = left
+
+byte-at-requires : tie.Need-byte-at-requires Inv-loop μ-loop
+byte-at-requires c κs = tt
+
+number-at-requires : tie.Need-number-at-requires Inv-loop μ-loop
+number-at-requires c κs = omega arith
+
+loop-holds : tie.Need-loop-holds Inv-loop μ-loop
+loop-holds c = tt
+
+rest-at-requires : tie.Need-rest-at-requires Inv-loop μ-loop
+rest-at-requires c κs = tt
+
+byte-at-requires-2 : tie.Need-byte-at-requires-2 Inv-loop μ-loop
+byte-at-requires-2 c κs = tt
+
+byte-at-requires-3 : tie.Need-byte-at-requires-3 Inv-loop μ-loop
+byte-at-requires-3 c κs = tt
+
+short-number-at-requires : tie.Need-short-number-at-requires Inv-loop μ-loop
+short-number-at-requires c κs = omega arith
+
+ask-with-requires : tie.Need-ask-with-requires Inv-loop μ-loop
+ask-with-requires c κs = tt
+
+end-line-requires : tie.Need-end-line-requires Inv-loop μ-loop
+end-line-requires c κs = tt
+
+returns : tie.Need-returns Inv-loop μ-loop
+returns c = tt
+
+add-disk : tie.Need-add-disk Inv-loop μ-loop
+add-disk c = omega arith
+
+sub-left : tie.Need-sub-left Inv-loop μ-loop
+sub-left c = omega arith
+
+loop-less : tie.Need-loop-less Inv-loop μ-loop
+loop-less c = omega arith
+
+loop-again : tie.Need-loop-again Inv-loop μ-loop
+loop-again c = tt
+
+returns-2 : tie.Need-returns-2 Inv-loop μ-loop
+returns-2 c = tt
+
+pub answer-spec : {M : Type 1} → statement M
+answer-spec =
+    tie.close
+    (tie.spec
+    Inv-loop
+    μ-loop
+    byte-at-requires
+    number-at-requires
+    loop-holds
+    rest-at-requires
+    byte-at-requires-2
+    byte-at-requires-3
+    short-number-at-requires
+    ask-with-requires
+    end-line-requires
+    returns
+    add-disk
+    sub-left
+    loop-less
+    loop-again
+    returns-2)

@@ -1,0 +1,65 @@
+-- `planvectors::print_answer` calls what requires nothing. Assumes nothing.
+use borrow.Author.Needs.{needs}
+use Rattle.planvectors.proofs.print_answer.Statement.{statement}
+use Rattle.planvectors.proofs.print_answer.Tie as tie
+
+enum-known-planned : tie.Need-enum-known-planned
+enum-known-planned c = search needs
+
+front-of-requires : tie.Need-front-of-requires
+front-of-requires c κs = tt
+
+same-behind-requires : tie.Need-same-behind-requires
+same-behind-requires c κs = tt
+
+print-plan-requires : tie.Need-print-plan-requires
+print-plan-requires c κs = tt
+
+enum-known-planned-2 : tie.Need-enum-known-planned-2
+enum-known-planned-2 c = search needs
+
+same-requires : tie.Need-same-requires
+same-requires c κs = tt
+
+is-good-requires : tie.Need-is-good-requires
+is-good-requires c κs = tt
+
+print-pattern-requires : tie.Need-print-pattern-requires
+print-pattern-requires c κs = tt
+
+enum-known-planned-3 : tie.Need-enum-known-planned-3
+enum-known-planned-3 c = search needs
+
+same-requires-2 : tie.Need-same-requires-2
+same-requires-2 c κs = tt
+
+print-refusal-requires : tie.Need-print-refusal-requires
+print-refusal-requires c κs = tt
+
+returns : tie.Need-returns
+returns c = tt
+
+returns-2 : tie.Need-returns-2
+returns-2 c = tt
+
+returns-3 : tie.Need-returns-3
+returns-3 c = tt
+
+pub print-answer-spec : {M : Type 1} → statement M
+print-answer-spec =
+    tie.close
+    (tie.spec
+    enum-known-planned
+    front-of-requires
+    same-behind-requires
+    print-plan-requires
+    enum-known-planned-2
+    same-requires
+    is-good-requires
+    print-pattern-requires
+    enum-known-planned-3
+    same-requires-2
+    print-refusal-requires
+    returns
+    returns-2
+    returns-3)

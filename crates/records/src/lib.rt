@@ -1,0 +1,171 @@
+// What a program of test records needs: the numbers and parts of a record, buffers filled from a seed, and words and numbers printed.
+//
+// All numbers of a record have their low byte first.
+ghost use mathlib.Core.Path.{_≡_};
+ghost use Prim.Native.Nat.{_≤_, _<_};
+ghost use lib.ListN.{length};
+use libc::STDOUT_FILENO;
+
+// The byte at a place of a record, and 0 behind its end.
+pub fn byte_at(record: &[u8], at: usize) -> usize
+    ensures { λ r. ⌜ r < 256 ⌝ }
+{
+    if at < record.len() {
+        return record[at] as usize;
+    }
+    0
+}
+
+// The number in the 2 bytes at a place of a record.
+pub fn short_number_at(record: &[u8], at: usize) -> usize
+    requires { ⌜ at ≤ 1000 ⌝ }
+    ensures { λ r. ⌜ r < 65536 ⌝ }
+{
+    byte_at(record, at) + 256 * byte_at(record, at + 1)
+}
+
+// The number in the 8 bytes at a place of a record.
+pub fn number_at(record: &[u8], at: usize) -> usize
+    requires { ⌜ at ≤ 900 ⌝ }
+{
+    short_number_at(record, at)
+        + 65536 * short_number_at(record, at + 2)
+        + 4294967296 * short_number_at(record, at + 4)
+        + 281474976710656 * short_number_at(record, at + 6)
+}
+
+// The bytes from a place on, or none where the place is behind the end.
+pub fn rest_at(bytes: &[u8], at: usize) -> &[u8] {
+    if at <= bytes.len() {
+        return &bytes[at..];
+    }
+    &bytes[0..0]
+}
+
+// The first bytes, as many as asked, or none where there are fewer.
+pub fn front_of(bytes: &[u8], length: usize) -> &[u8] {
+    if length <= bytes.len() {
+        return &bytes[0..length];
+    }
+    &bytes[0..0]
+}
+
+// The product of two numbers where they and it are at most 4096, and 0 otherwise.
+pub fn product(one: usize, other: usize) -> usize
+    ensures { λ r. ⌜ r ≤ 4096 ⌝ }
+{
+    if one > 4096 {
+        return 0;
+    }
+    if other > 4096 {
+        return 0;
+    }
+    let whole = one * other;
+    if whole > 4096 {
+        return 0;
+    }
+    whole
+}
+
+// Fills the bytes of a buffer from a start up to an end from a seed, as far as it has them.
+pub fn fill(buffer: &mut [u8], start: usize, end: usize, seed: usize) {
+    let mut state = seed % 2147483648;
+    let mut i = start;
+    while i < end {
+        if i >= buffer.len() {
+            return;
+        }
+        state = (state * 1103515245 + 12345) % 2147483648;
+        buffer[i] = (state / 65536 % 256) as u8;
+        i += 1;
+    }
+}
+
+// A long buffer, filled from a seed.
+pub fn filled(seed: usize) -> [u8; 4096]
+    ensures { λ r. ⌜ 4096 ≡ length r ⌝ }
+{
+    let mut buffer = [0u8; 4096];
+    fill(&mut buffer, 0, 4096, seed);
+    buffer
+}
+
+// Whether two slices have the same length and the same bytes.
+pub fn same(one: &[u8], other: &[u8]) -> bool {
+    if one.len() != other.len() {
+        return false;
+    }
+    let mut i = 0;
+    while i < one.len() {
+        if one[i] != other[i] {
+            return false;
+        }
+        i += 1;
+    }
+    true
+}
+
+// Whether two slices have the same bytes from a place on.
+pub fn same_behind(one: &[u8], other: &[u8], at: usize) -> bool {
+    same(rest_at(one, at), rest_at(other, at))
+}
+
+// Whether bytes, at most 64, are all zero.
+pub fn is_zero(bytes: &[u8]) -> bool {
+    let zeros = [0u8; 64];
+    same(bytes, front_of(&zeros, bytes.len()))
+}
+
+// Whether bytes are zero before a part and behind it, at most 64 on each side, and the part is not.
+pub fn is_zero_beside(bytes: &[u8], start: usize, length: usize) -> bool {
+    let part_on = rest_at(bytes, start);
+    if is_zero(front_of(part_on, length)) {
+        return false;
+    }
+    is_zero(front_of(bytes, start)) & is_zero(rest_at(part_on, length))
+}
+
+// The bits of a pattern, the lowest first, each a byte of 0 or 1.
+pub fn spread(pattern: u64) -> [u8; 64] {
+    let mut bits = [0u8; 64];
+    let mut rest = pattern;
+    let mut i = 0;
+    while i < 64 {
+        bits[i] = (rest % 2) as u8;
+        rest = rest / 2;
+        i += 1;
+    }
+    bits
+}
+
+pub fn print(text: &[u8]) {
+    io::write_all(STDOUT_FILENO, text);
+}
+
+pub fn print_number(number: u64) {
+    print(b" ");
+    io::print_decimal(STDOUT_FILENO, number);
+}
+
+// A word, after a blank, with "not-" in front of it where it does not hold.
+pub fn print_word(holds: bool, word: &[u8]) {
+    print(b" ");
+    if !holds {
+        print(b"not-");
+    }
+    print(word);
+}
+
+pub fn end_line() {
+    print(b"\n");
+}
+
+// Bytes in hex, after a blank.
+pub fn print_bytes(bytes: &[u8]) {
+    print(b" ");
+    let mut i = 0;
+    while i < bytes.len() {
+        io::print_hex(STDOUT_FILENO, byte_at(bytes, i) as u64, 2);
+        i += 1;
+    }
+}

@@ -1,0 +1,196 @@
+"""The records of planning: every family, codes of every shape that can and can't be rebuilt, and every refusal."""
+from collections import Counter
+from itertools import product
+from typing import Optional
+
+from arrays import SMALLEST, SPECIAL_CODES, below, chosen, low_rank_code, random_bytes, random_code, random_codes
+from plan_vectors import planted_codes, some_disks
+from second import SQUARE, Code, changed, liberation, row_diagonal, sheet_of, single_parity
+from second_planner import BUFFER, CRATE, P8, P9, Asked, most_steps
+
+SHOWN_STEPS = 16
+"""Plans are shown where no plan has more steps."""
+
+HUGE_DISKS = (255, 256, 2**32, 2**61, 2**63, 2**64 - 1)
+
+
+class Questions:
+    """The records, with the number of questions of each kind."""
+
+    def __init__(self) -> None:
+        self.records: list[Asked] = []
+        self.kinds: Counter[str] = Counter()
+
+    def add(self, kind: str, sheet: bytes, disk: int, **more: int) -> None:
+        asked = Asked(sheet, disk, **{"seed": 37 * len(self.records) % 256, **more})
+        self.records.append(asked)
+        self.kinds[kind] += asked.count
+
+    def add_code(self, kind: str, code: Code, disks: Optional[list[int]] = None, **more: int) -> None:
+        """About some disks, or about all in one record."""
+        more = {"shown": most_steps(code) <= SHOWN_STEPS, **more}
+        if disks is None:
+            self.add(kind, sheet_of(code), 0, count=code.disks, **more)
+        for disk in disks or []:
+            self.add(kind, sheet_of(code), disk, **more)
+
+    def bytes(self) -> bytes:
+        return b"".join(asked.record() for asked in self.records)
+
+
+# Codes that can be rebuilt
+
+
+def add_families(questions: Questions) -> None:
+    """Every family at every parameter, with every disk. Of single parity with many low disks the first two or the last two do, but
+    for the one that fills the array."""
+    for k, r in [(k, r) for r in range(1, 33) for k in range(1, 64) if (k + 1) * r <= 64]:
+        sheet, shown = sheet_of(single_parity(k, r)), r * r * k <= 6
+        length = chosen([BUFFER, BUFFER, BUFFER + 1, 4096])
+        some = r <= 2 and 12 < k and (k + 1) * r < 64
+        disk, count = ((0, k - 1)[k % 2], 2) if some else (0, k + 1)
+        questions.add("single parity", sheet, disk, count=count, buffer_length=length, shown=shown)
+    for w in (3, 5, 7):
+        for k in range(2, w + 1):
+            questions.add_code("Liberation", liberation(w, k), shown=w == 3)
+    for p in (3, 5, 7):
+        questions.add_code("row-diagonal", row_diagonal(p))
+
+
+def add_worked_cases(questions: Questions) -> None:
+    for code in (SQUARE, P8, P9):
+        for length in (BUFFER, BUFFER + 1, 4096):
+            questions.add_code("worked cases", code, buffer_length=length)
+
+
+def without(code: Code, places: list[int]) -> Code:
+    """The code with some rows zero."""
+    return code._replace(rows=tuple(0 if place in places else row for place, row in enumerate(code.rows)))
+
+
+def add_second_parity(questions: Questions) -> None:
+    """P is gone, whole or in part, or a copy of Q: Liberation's Q can still do it, row-diagonal's can't for every disk."""
+    for code in [liberation(3, 3), liberation(5, 4), liberation(7, 7), row_diagonal(3), row_diagonal(5), row_diagonal(7)]:
+        first = code.symbols - 2 * code.height
+        parity = list(range(first, first + code.height))
+        questions.add_code("row parity can't", without(code, parity))
+        questions.add_code("row parity can't", without(code, parity[: code.height // 2]))
+        questions.add_code("row parity can't", without(code, parity[1::2] + [first + code.height]))
+        questions.add_code("row parity can't", code._replace(rows=code.rows[:first] + 2 * code.rows[first + code.height :]))
+
+
+# Codes that can or can't
+
+
+def add_other_codes(questions: Questions) -> None:
+    for code in SPECIAL_CODES + random_codes():
+        questions.add_code("other codes", code, None if code.disks <= 9 else some_disks(code))
+    for code, disk in planted_codes():
+        questions.add_code("planted codes", code, [disk], buffer_length=chosen([BUFFER, 4000]))
+
+
+def add_large_shown(questions: Questions) -> None:
+    """Long plans whose bytes are judged too."""
+    asked = [(liberation(5, 5), 0), (liberation(5, 5), 6), (liberation(7, 7), 3), (row_diagonal(7), 7)]
+    asked += [(random_code(8, 8, 48), 3), (random_code(2, 32, 20), 1), (random_code(64, 1, 50), 40)]
+    for code, disk in asked:
+        questions.add("large codes, shown", sheet_of(code), disk, shown=True)
+
+
+def add_longest(questions: Questions) -> None:
+    """Every lost row is the sum of all 32 survivors: 1,024 steps, which fill a buffer of 3,081 bytes."""
+    survivors, lost = tuple(2**bit for bit in range(32)), (2**32 - 1,) * 32
+    questions.add("longest plan", sheet_of(Code(2, 32, 32, lost + survivors)), 0, shown=True)
+    questions.add("longest plan", sheet_of(Code(2, 32, 32, survivors + lost)), 1)
+    wide = Code(2, 32, 64, (2**64 - 1,) * 32 + tuple(row << 32 | row for row in survivors))
+    questions.add("longest plan", sheet_of(wide), 0, buffer_length=4096)
+
+
+def add_small_codes(questions: Questions) -> None:
+    """Small codes of any rank, K above N among them, with all disks and the plans shown."""
+    for _ in range(110):
+        disks, height = 2 + below(4), 1 + below(3)
+        data_symbols = 1 + below(min(12, disks * height + 1))
+        if disks * height > 9:
+            height = 1
+        questions.add_code("small codes", random_code(disks, height, data_symbols), shown=True)
+    for _ in range(25):
+        questions.add_code("small codes of low rank", low_rank_code(2 + below(4), 1 + below(2), 1 + below(64)), shown=True)
+
+
+def add_nearly(questions: Questions) -> None:
+    """K is as large as the number of survivors, or one more, where one pattern alone may show that there is no plan."""
+    for disks, height in [(3, 2), (5, 3), (4, 8), (8, 8), (2, 32), (64, 1), (13, 4), (3, 21)]:
+        for more in (0, 1):
+            data_symbols = disks * height - height + more
+            code = random_code(disks, height, data_symbols)
+            questions.add_code("one pattern or none", code, sorted({0, disks - 1}))
+
+
+def add_low_rank(questions: Questions) -> None:
+    """Zero rows, equal rows, rows of one disk again on another, and a family with one bit turned over."""
+    for disks, height, data_symbols in [(4, 3, 6), (5, 4, 30), (16, 4, 64), (2, 32, 64), (3, 21, 1), (64, 1, 64)]:
+        code = low_rank_code(disks, height, data_symbols)
+        questions.add_code("low rank", code, some_disks(code))
+    for code in (SQUARE, random_code(4, 3, 12), random_code(2, 8, 16), random_code(6, 2, 64)):
+        half = code.symbols // 2
+        questions.add_code("zero rows", without(code, list(range(half))))
+        questions.add_code("zero rows", without(code, list(range(0, code.symbols, 2))))
+        questions.add_code("zero rows", without(code, list(range(code.symbols))))
+        questions.add_code("equal rows", code._replace(rows=code.rows[:1] * code.symbols))
+        questions.add_code("equal rows", code._replace(rows=code.rows[:half] * 2))
+    for code in (single_parity(3, 2), liberation(3, 3), liberation(5, 5), row_diagonal(5), row_diagonal(7)):
+        for _ in range(3):
+            place, bit = below(code.symbols), below(code.data_symbols)
+            rows = code.rows[:place] + (code.rows[place] ^ 2**bit,) + code.rows[place + 1 :]
+            questions.add_code("a bit turned over", code._replace(rows=rows))
+
+
+# Refusals
+
+
+def refused_sheets() -> list[bytes]:
+    """A sheet for every refusal of a code sheet, and for every place in the order of them."""
+    square, smallest = sheet_of(SQUARE), sheet_of(SMALLEST)
+    wrong = [(0, 5), (0, 0), (1, 2), (1, 0), (2, 1), (2, 65), (3, 0), (3, 33), (2, 33), (4, 0), (4, 65), (5, 7), (5, 9), (13, 128)]
+    sheets = [changed(square, at, value) for at, value in wrong]
+    sheets += [smallest[:length] for length in range(len(smallest))]
+    sheets += [square[:69], square + b"\0", square + bytes(448), square + bytes(449), bytes([5]) * 600, b"\4" * 600]
+    for place, bit in [(0, 4), (0, 63), (3, 9), (7, 4), (7, 63)]:
+        sheets.append(sheet_of(SQUARE._replace(rows=tuple(row | 2**bit * (s == place) for s, row in enumerate(SQUARE.rows)))))
+    pairs = [((0, 5), (1, 2)), ((1, 2), (2, 1)), ((3, 33), (5, 9)), ((5, 9), (13, 128)), ((2, 1), (13, 128))]
+    sheets += [changed(changed(square, *one), *other) for one, other in pairs]
+    sheets += [sheet_of(Code(13, 5, 1, (0,) * 65)), sheet_of(Code(2, 1, 63, (0, 2**63))), random_bytes(70)]
+    return sheets
+
+
+def add_refused(questions: Questions) -> None:
+    for sheet in refused_sheets():
+        questions.add("code sheet refused", sheet, 0)
+    for code in (SQUARE, P8, SMALLEST, random_code(64, 1, 64)):
+        sheet = sheet_of(code)
+        for disk in (code.disks - 1, code.disks, code.disks + 1, *HUGE_DISKS):
+            questions.add("disk at a limit", sheet, disk)
+    for code in (SQUARE, P8, random_code(2, 32, 64), Code(2, 1, 1, (0, 0))):
+        for length in (0, 1, 9, 518, 3079, 3080, 3081):
+            questions.add("buffer at a limit", sheet_of(code), 1, buffer_length=length)
+    square = sheet_of(SQUARE)
+    for sheet, disk, length in product((square, square[:69], changed(square, 13, 128)), (3, 4, 2**64 - 1), (3080, 0, 3081)):
+        questions.add("several faults", sheet, disk, buffer_length=length)
+
+
+def write_planner_vectors() -> Questions:
+    """Writes crates/planvectors/stdin anew. Its stdout is what the program printed, judged by second_planner.py."""
+    questions = Questions()
+    add_worked_cases(questions)
+    add_families(questions)
+    add_second_parity(questions)
+    add_other_codes(questions)
+    add_large_shown(questions)
+    add_longest(questions)
+    add_small_codes(questions)
+    add_nearly(questions)
+    add_low_rank(questions)
+    add_refused(questions)
+    (CRATE / "stdin").write_bytes(questions.bytes())
+    return questions
