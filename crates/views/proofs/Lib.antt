@@ -1,3 +1,4 @@
 pub mod ReadLaws
+pub mod PartLaws
 pub mod StripLaws
 pub mod LookUpLaws

@@ -1,16 +1,16 @@
 -- Laws of look up: what its verdict says, and what it shows of the stripe or the spare strip. Assumes nothing.
-use mathlib.Core.Path.{_≡_, refl, sym, ap, ap₂, _∙_}
-use mathlib.Core.Bool.{Bool, cond}
+use mathlib.Core.Path.{_≡_, refl, sym, ap, ap₂, subst, _∙_}
+use mathlib.Core.Bool.{Bool, true, false, cond}
+use mathlib.Core.Logic.{_↔_}
 use mathlib.Core.List.{List, [], _∷_}
 use Prim.Native.Nat.{ℕ, _+_, _-_, _*_, _≤_, _<_}
 use native.Mathlib.Omega.{arith}
-use lib.ListN.{length, take, drop}
-use borrow.Rule.Slice.PartAt.{part-count}
+use lib.ListN.{length}
 use borrow.Author.Tests.{leb-false, not-false, eqb-true, eq-eqb, ne-eqb}
 use Rattle.codes.proofs.LayoutLaws.{on-disk-of, on-disk-between}
 use Rattle.codes.specs.Layouts.{symbolsOf, firstSymbol, heightOf, diskOf, onDisk}
 use Rattle.codes.specs.Lengths.{lengthFault}
-use Rattle.gf2.proofs.SymbolLaws.{part-length, part-is-symbol, symbol-ends-within}
+use Rattle.gf2.proofs.SymbolLaws.{symbol-ends-within}
 use Rattle.gf2.specs.Stripes.{symbol}
 use Rattle.refusals.specs.Orders.{_gets_, andThen, ifFine}
 use Rattle.refusals.specs.declared.Refusal.{Refusal}
@@ -21,7 +21,9 @@ use Rattle.refusals.proofs.OrderLaws.{fine-means-none-holds, refused-is-not-fin
 use Rattle.sheets.specs.declared.Reading.{Reading}
 use Rattle.views.proofs.ReadLaws.{ReadFrom}
 use Rattle.views.proofs.StripLaws.{StripFits, fine-strip-fits}
+use Rattle.views.specs.Places.{sliceOf, nowhere, symbolPart, symbolPlace, Shows}
 use Rattle.views.specs.Views.{stripFaults, lookUpFaults, lookUpVerdict, symbolOf, symbolShown}
+use Rattle.views.specs.declared.Part.{Part}
 use lib.Dec.{leb, eqb}
 
 -- What a fine verdict says: the strip fits, the spare strip is whole and the symbol is one of the array's
@@ -70,12 +72,6 @@ module _ {read : Reading} {disk size stripeBytes spareBytes wanted : ℕ} (fits 
       let between = on-disk-between (read .code .layout) disk wanted (on-disk-as-found e (eq-eqb place disk f)) in
       omega (arith, symbol-ends-within (wanted - first) (heightOf (read .code .layout) disk) size (omega arith))
 
--- A symbol of L bytes that ends within the bytes is not empty
-symbol-not-empty : (bytes : List ℕ) (s size : ℕ) → 0 < size → (s + 1) * size ≤ length bytes
-    → 0 < length (take ((s + 1) * size - s * size) (drop (s * size) bytes))
-symbol-not-empty bytes s size some ends =
-    omega (arith, part-count bytes (s * size) ((s + 1) * size) (omega arith, ends), part-length s size)
-
 module _ (sheet stripe spare : List ℕ) (disk size wanted : ℕ) (read : Reading) (from : ReadFrom sheet read) where
   -- The verdict is the definition's
   pub look-up-verdict-is : {answer : Verdict}
@@ -98,45 +94,71 @@ module _ (sheet stripe spare : List ℕ) (disk size wanted : ℕ) (read : Readin
           ap₂ (λ (v : Verdict) (r : Reading). ifFine v (symbolOf (r .code .layout) disk size stripe spare wanted) [])
           (sym told ∙ look-up-verdict-is tested) (from .0)
 
-      -- Refused: the empty part
-      pub look-up-refused : {refusal : Refusal} → answer ≡ Refused refusal
-          → ([] ≡ symbolShown sheet disk size stripe spare wanted)
-          × (lookUpVerdict sheet disk size (length stripe) (length spare) wanted ≡ Fine → 0 < 0)
-      look-up-refused told =
-          (shown-by-verdict told, λ fine. absurd (refused-is-not-fine (sym told ∙ look-up-verdict-is tested ∙ fine)))
+      -- Where it lies, by the verdict
+      place-by-verdict : {told : Verdict} → answer ≡ told
+          → ifFine told (symbolPart (read .code .layout) disk size wanted) nowhere ≡ symbolPlace sheet disk size (length stripe) (length spare) wanted
+      unfolding symbolPlace
+      place-by-verdict told =
+          ap₂ (λ (v : Verdict) (r : Reading). ifFine v (symbolPart (r .code .layout) disk size wanted) nowhere)
+          (sym told ∙ look-up-verdict-is tested) (from .0)
+
+      -- A part is where the symbol lies, and shows it
+      abbrev Placed : Part → Type 0
+      Placed part =
+          (part ≡ symbolPlace sheet disk size (length stripe) (length spare) wanted)
+          × Shows part (sliceOf part stripe spare) (symbolShown sheet disk size stripe spare wanted) (lookUpVerdict sheet disk size (length stripe) (length spare) wanted)
+
+      -- Refused: the part of no bytes
+      pub look-up-refused : {part : Part} {refusal : Refusal} → part ≡ nowhere → answer ≡ Refused refusal → Placed part
+      look-up-refused e told =
+          let shows : Shows nowhere stripe (symbolShown sheet disk size stripe spare wanted) (lookUpVerdict sheet disk size (length stripe) (length spare) wanted) = record {
+            within = omega arith;
+            bytes = shown-by-verdict told;
+            exactly = (λ some. absurd (omega arith), λ fine. absurd (refused-is-not-fine (sym told ∙ look-up-verdict-is tested ∙ fine)));
+          } in
+          subst Placed (sym e) (place-by-verdict told, shows)
 
       module _ (told : answer ≡ Fine) where
         fits : LookUpFits read disk size (length stripe) (length spare) wanted
         fits = fine-look-up-fits sheet read from disk size (length stripe) (length spare) wanted tested told
 
-        -- A lost symbol: from the spare strip, in its row
-        pub lost-shown : {place first : ℕ} → place ≡ diskOf (read .code .layout) wanted → place ≡ disk
-            → first ≡ firstSymbol (read .code .layout) disk
-            → (take ((wanted - first + 1) * size - (wanted - first) * size) (drop ((wanted - first) * size) spare) ≡ symbolShown sheet disk size stripe spare wanted)
-            × (lookUpVerdict sheet disk size (length stripe) (length spare) wanted ≡ Fine
-            → 0 < length (take ((wanted - first + 1) * size - (wanted - first) * size) (drop ((wanted - first) * size) spare)))
-        lost-shown {place} {first} e f g = (
-          part-is-symbol spare (wanted - first) size
-              ∙ ap (λ (n : ℕ). symbol size spare (wanted - n)) g
-              ∙ ap (λ (lost : Bool). cond lost (symbol size spare (wanted - firstSymbol (read .code .layout) disk)) (symbol size stripe wanted))
-              (sym (on-disk-as-found fits e (eq-eqb place disk f)))
-              ∙ shown-by-verdict told,
-          λ fine.
-              symbol-not-empty spare (wanted - first) size (fits .strip .size-from)
-              (lost-ends-within fits e f g),
-        )
+        -- Nothing is refused, and a symbol has bytes
+        shown-exactly : (0 < size) ↔ (lookUpVerdict sheet disk size (length stripe) (length spare) wanted ≡ Fine)
+        shown-exactly = (λ any. sym (look-up-verdict-is tested) ∙ told, λ fine. fits .strip .size-from)
 
-        -- A survivor: from the stripe, in its place
-        pub survivor-shown : {place : ℕ} → place ≡ diskOf (read .code .layout) wanted → (place ≡ disk → ⊥)
-            → (take ((wanted + 1) * size - wanted * size) (drop (wanted * size) stripe) ≡ symbolShown sheet disk size stripe spare wanted)
-            × (lookUpVerdict sheet disk size (length stripe) (length spare) wanted ≡ Fine
-            → 0 < length (take ((wanted + 1) * size - wanted * size) (drop (wanted * size) stripe)))
-        survivor-shown {place} e f = (
-          part-is-symbol stripe wanted size
-              ∙ ap (λ (lost : Bool). cond lost (symbol size spare (wanted - firstSymbol (read .code .layout) disk)) (symbol size stripe wanted))
-              (sym (on-disk-as-found fits e (ne-eqb place disk f)))
-              ∙ shown-by-verdict told,
-          λ fine.
-              symbol-not-empty stripe wanted size (fits .strip .size-from)
-              (survivor-ends-within fits),
-        )
+        -- A lost symbol: in the spare strip, in its row
+        pub lost-placed : {place first : ℕ} → place ≡ diskOf (read .code .layout) wanted → place ≡ disk
+            → first ≡ firstSymbol (read .code .layout) disk
+            → Placed (record { in_spare = true; start = (wanted - first) * size; length = size })
+        lost-placed {place} {first} e f g =
+            let on-disk = on-disk-as-found fits e (eq-eqb place disk f) in (
+              ap (λ (n : ℕ). record { in_spare = true; start = (wanted - n) * size; length = size }) g
+                  ∙ ap (λ (lost : Bool). cond lost (record { in_spare = true; start = (wanted - firstSymbol (read .code .layout) disk) * size; length = size }) (record { in_spare = false; start = wanted * size; length = size })) (sym on-disk)
+                  ∙ place-by-verdict told,
+              record {
+                within = omega (arith, lost-ends-within fits e f g);
+                bytes =
+                    ap (λ (n : ℕ). symbol size spare (wanted - n)) g
+                    ∙ ap (λ (lost : Bool). cond lost (symbol size spare (wanted - firstSymbol (read .code .layout) disk)) (symbol size stripe wanted))
+                    (sym on-disk)
+                    ∙ shown-by-verdict told;
+                exactly = shown-exactly;
+              },
+            )
+
+        -- A survivor: in the stripe, in its place
+        pub survivor-placed : {place : ℕ} → place ≡ diskOf (read .code .layout) wanted → (place ≡ disk → ⊥)
+            → Placed (record { in_spare = false; start = wanted * size; length = size })
+        survivor-placed {place} e f =
+            let on-disk = on-disk-as-found fits e (ne-eqb place disk f) in (
+              ap (λ (lost : Bool). cond lost (record { in_spare = true; start = (wanted - firstSymbol (read .code .layout) disk) * size; length = size }) (record { in_spare = false; start = wanted * size; length = size })) (sym on-disk)
+                  ∙ place-by-verdict told,
+              record {
+                within = omega (arith, survivor-ends-within fits);
+                bytes =
+                    ap (λ (lost : Bool). cond lost (symbol size spare (wanted - firstSymbol (read .code .layout) disk)) (symbol size stripe wanted))
+                    (sym on-disk)
+                    ∙ shown-by-verdict told;
+                exactly = shown-exactly;
+              },
+            )

@@ -18,4 +18,4 @@ pub layout-small : (sheet : List ℕ) (read : Reading) → ReadFrom sheet read
     → (read .code .layout .disks ≤ 255) × (read .code .layout .height ≤ 255)
 layout-small sheet read from =
     let small : Small (read .code) = subst (λ (r : Reading). Small (r .code)) (sym (from .0)) (reading-small sheet) in
-    (omega arith, omega arith)
+    (omega (arith, small .disks-to), omega (arith, small .height-to))

@@ -1,11 +1,11 @@
 -- Laws of one strip: what its verdict says, and what it shows of the stripe. Assumes nothing.
-use mathlib.Core.Path.{_≡_, sym, ap, ap₂, _∙_}
+use mathlib.Core.Path.{_≡_, sym, ap, ap₂, subst, _∙_}
+use mathlib.Core.Bool.{false}
 use mathlib.Core.List.{List, []}
-use Prim.Native.Nat.{ℕ, _+_, _-_, _*_, _≤_, _<_}
+use Prim.Native.Nat.{ℕ, _+_, _*_, _≤_, _<_}
 use native.Mathlib.Nat.{mul-le-mul-right}
 use native.Mathlib.Omega.{arith}
 use lib.ListN.{length, take, drop}
-use borrow.Rule.Slice.PartAt.{part-count}
 use borrow.Author.Tests.{leb-false, ltb-false, not-false, eqb-true, eqb-false}
 use Rattle.codes.proofs.LayoutLaws.{strip-within, height-of-positive}
 use Rattle.codes.specs.Codes.{WithinLimits}
@@ -17,7 +17,9 @@ use Rattle.refusals.specs.declared.Verdict.the-variants.{Fine, Refused}
 use Rattle.refusals.proofs.OrderLaws.{fine-means-none-holds, refused-is-not-fine}
 use Rattle.sheets.specs.declared.Reading.{Reading}
 use Rattle.views.proofs.ReadLaws.{ReadFrom}
+use Rattle.views.specs.Places.{nowhere, stripPart, stripPlace, Shows}
 use Rattle.views.specs.Views.{stripFaults, stripVerdict, stripOf, stripShown}
+use Rattle.views.specs.declared.Part.{Part}
 
 -- What a fine verdict says: there is a code, the disk is one of its array's, L is within its bounds and the stripe is whole
 pub record StripFits (read : Reading) (disk size stripeBytes : ℕ) : Type 0 where
@@ -66,27 +68,43 @@ module _ (sheet stripe : List ℕ) (disk size : ℕ) (read : Reading) (from : Re
         ap₂ (λ (v : Verdict) (r : Reading). ifFine v (stripOf (r .code .layout) disk size stripe) [])
         (sym told ∙ strip-verdict-is tested) (from .0)
 
-    -- Refused: the empty part
-    pub strip-refused : {refusal : Refusal} → answer ≡ Refused refusal
-        → ([] ≡ stripShown sheet disk size stripe) × (stripVerdict sheet disk size (length stripe) ≡ Fine → 0 < 0)
-    strip-refused told =
-        (shown-by-verdict told, λ fine. absurd (refused-is-not-fine (sym told ∙ strip-verdict-is tested ∙ fine)))
+    -- Where it lies, by the verdict
+    place-by-verdict : {told : Verdict} → answer ≡ told
+        → ifFine told (stripPart (read .code .layout) disk size) nowhere ≡ stripPlace sheet disk size (length stripe)
+    unfolding stripPlace
+    place-by-verdict told =
+        ap₂ (λ (v : Verdict) (r : Reading). ifFine v (stripPart (r .code .layout) disk size) nowhere) (sym told ∙ strip-verdict-is tested)
+        (from .0)
+
+    -- A part is where the strip lies, and shows it
+    abbrev Placed : Part → Type 0
+    Placed part =
+        (part ≡ stripPlace sheet disk size (length stripe))
+        × Shows part stripe (stripShown sheet disk size stripe) (stripVerdict sheet disk size (length stripe))
+
+    -- Refused: the part of no bytes
+    pub strip-refused : {part : Part} {refusal : Refusal} → part ≡ nowhere → answer ≡ Refused refusal → Placed part
+    strip-refused e told =
+        let shows : Shows nowhere stripe (stripShown sheet disk size stripe) (stripVerdict sheet disk size (length stripe)) = record {
+          within = omega arith;
+          bytes = shown-by-verdict told;
+          exactly = (λ some. absurd (omega arith), λ fine. absurd (refused-is-not-fine (sym told ∙ strip-verdict-is tested ∙ fine)));
+        } in
+        subst Placed (sym e) (place-by-verdict told, shows)
 
     -- Fine: the disk's symbols from its first on, and there are some
-    pub strip-shown : {first height : ℕ} → first ≡ firstSymbol (read .code .layout) disk → height ≡ heightOf (read .code .layout) disk
-        → answer ≡ Fine
-        → (take (first * size + height * size - first * size) (drop (first * size) stripe) ≡ stripShown sheet disk size stripe)
-        × (stripVerdict sheet disk size (length stripe) ≡ Fine
-        → 0 < length (take (first * size + height * size - first * size) (drop (first * size) stripe)))
-    strip-shown {first} {height} e f told =
+    pub strip-placed : {first height : ℕ} → first ≡ firstSymbol (read .code .layout) disk → height ≡ heightOf (read .code .layout) disk
+        → answer ≡ Fine → Placed (record { in_spare = false; start = first * size; length = height * size })
+    strip-placed {first} {height} e f told =
         let fits = fine-strip-fits sheet read from disk size (length stripe) tested told in
-        let whole : first * size + height * size - first * size ≡ height * size = omega arith in (
-          ap (λ (n : ℕ). take n (drop (first * size) stripe)) whole
-              ∙ ap₂ (λ (a b : ℕ). take (b * size) (drop (a * size) stripe)) e f
-              ∙ shown-by-verdict told,
-          λ fine.
-              let ends = strip-ends-within fits e f in
-              let some : 1 ≤ height = omega (arith, height-of-positive (read .code .layout) disk (fits .limits .height-from)) in
-              omega
-              (arith, part-count stripe (first * size) (first * size + height * size) (omega arith, ends), mul-le-mul-right {m = 1} size some),
+        let some : 1 ≤ height = omega (arith, height-of-positive (read .code .layout) disk (fits .limits .height-from)) in (
+          ap₂ (λ (a b : ℕ). record { in_spare = false; start = a * size; length = b * size }) e f ∙ place-by-verdict told,
+          record {
+            within = strip-ends-within fits e f;
+            bytes = ap₂ (λ (a b : ℕ). take (b * size) (drop (a * size) stripe)) e f ∙ shown-by-verdict told;
+            exactly = (
+              λ any. sym (strip-verdict-is tested) ∙ told,
+              λ fine. omega (arith, fits .size-from, mul-le-mul-right {m = 1} size some),
+            );
+          },
         )

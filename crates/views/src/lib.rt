@@ -5,11 +5,30 @@ ghost use lib.ListN.{length};
 ghost use Rattle.refusals.specs.Orders.{andThen};
 ghost use Rattle.refusals.specs.declared.Verdict.the-variants.{Fine};
 ghost use Rattle.views.specs.Views.{stripFaults, stripVerdict, stripShown, lookUpFaults, lookUpVerdict, symbolShown};
+ghost use Rattle.views.specs.Places.{nowhere, stripPlace, symbolPlace, sliceOf, Shows};
 use codes::Layout;
 use codes::is_length;
 use refusals::Refusal;
 use refusals::Verdict;
 use sheets::read_code;
+
+// Where a part lies: in the spare strip or in the stripe, from which byte on, and how many bytes.
+pub struct Part {
+    pub in_spare: bool,
+    pub start: usize,
+    pub length: usize,
+}
+
+// The part of no bytes.
+fn nowhere() -> Part
+    ensures { λ r. ⌜ r ≡ nowhere ⌝ }
+{
+    Part {
+        in_spare: false,
+        start: 0,
+        length: 0,
+    }
+}
 
 // The order 7, 31, 32 behind the verdict on the code sheet.
 fn strip_test(read: Verdict, layout: Layout, disk: usize, size: usize, bytes: usize) -> Verdict
@@ -54,10 +73,10 @@ pub fn strip_verdict(sheet: &[u8], disk: usize, size: usize, stripe: &[u8]) -> V
     strip_test(read, layout, disk, size, stripe.len())
 }
 
-// The strip of a disk, as a part of the stripe; the empty part where `strip_verdict` refuses, and only there.
-pub fn strip<'a>(sheet: &[u8], disk: usize, size: usize, stripe: &'a [u8]) -> &'a [u8]
-    ensures answer { λ r. ⌜ now r ≡ stripShown (now (sheet .entry)) disk size (now (stripe .entry)) ⌝ }
-    ensures shown { λ r. ⌜ (stripVerdict (now (sheet .entry)) disk size (length (now (stripe .entry))) ≡ Fine → 0 < length (now r)) ⌝ }
+// Where the strip of a disk lies in the stripe; a part of no bytes where `strip_verdict` refuses, and only there.
+pub fn strip_place(sheet: &[u8], disk: usize, size: usize, stripe: &[u8]) -> Part
+    ensures answer { λ r. ⌜ r ≡ stripPlace (now (sheet .entry)) disk size (length (now (stripe .entry))) ⌝ }
+    ensures shows { λ r. ⌜ Shows r (now (stripe .entry)) (stripShown (now (sheet .entry)) disk size (now (stripe .entry))) (stripVerdict (now (sheet .entry)) disk size (length (now (stripe .entry)))) ⌝ }
 {
     let reading = read_code(sheet);
     let read = reading.verdict;
@@ -65,10 +84,23 @@ pub fn strip<'a>(sheet: &[u8], disk: usize, size: usize, stripe: &'a [u8]) -> &'
     let layout = code.layout;
     let verdict = strip_test(read, layout, disk, size, stripe.len());
     let Verdict::Fine = verdict else {
-        return &stripe[0..0];
+        return nowhere();
     };
-    let start = layout.first_symbol(disk) * size;
-    let end = start + layout.height_of(disk) * size;
+    Part {
+        in_spare: false,
+        start: layout.first_symbol(disk) * size,
+        length: layout.height_of(disk) * size,
+    }
+}
+
+// The strip of a disk, as a part of the stripe; the empty part where `strip_verdict` refuses, and only there.
+pub fn strip<'a>(sheet: &[u8], disk: usize, size: usize, stripe: &'a [u8]) -> &'a [u8]
+    ensures answer { λ r. ⌜ now r ≡ stripShown (now (sheet .entry)) disk size (now (stripe .entry)) ⌝ }
+    ensures shown { λ r. ⌜ (stripVerdict (now (sheet .entry)) disk size (length (now (stripe .entry))) ≡ Fine → 0 < length (now r)) ⌝ }
+{
+    let part = strip_place(sheet, disk, size, stripe);
+    let start = part.start;
+    let end = start + part.length;
     &stripe[start..end]
 }
 
@@ -90,6 +122,42 @@ pub fn look_up_verdict(
     look_up_test(read, layout, disk, size, stripe.len(), spare.len(), symbol)
 }
 
+// Where a symbol is shown: one that survives in the stripe, a lost one in the spare strip; a part of no bytes where
+// `look_up_verdict` refuses, and only there.
+pub fn symbol_place(
+    sheet: &[u8],
+    disk: usize,
+    size: usize,
+    stripe: &[u8],
+    spare: &[u8],
+    symbol: usize,
+) -> Part
+    ensures answer { λ r. ⌜ r ≡ symbolPlace (now (sheet .entry)) disk size (length (now (stripe .entry))) (length (now (spare .entry))) symbol ⌝ }
+    ensures shows { λ r. ⌜ Shows r (sliceOf r (now (stripe .entry)) (now (spare .entry))) (symbolShown (now (sheet .entry)) disk size (now (stripe .entry)) (now (spare .entry)) symbol) (lookUpVerdict (now (sheet .entry)) disk size (length (now (stripe .entry))) (length (now (spare .entry))) symbol) ⌝ }
+{
+    let reading = read_code(sheet);
+    let read = reading.verdict;
+    let code = reading.code;
+    let layout = code.layout;
+    let verdict = look_up_test(read, layout, disk, size, stripe.len(), spare.len(), symbol);
+    let Verdict::Fine = verdict else {
+        return nowhere();
+    };
+    if layout.disk_of(symbol) == disk {
+        let row = symbol - layout.first_symbol(disk);
+        return Part {
+            in_spare: true,
+            start: row * size,
+            length: size,
+        };
+    }
+    Part {
+        in_spare: false,
+        start: symbol * size,
+        length: size,
+    }
+}
+
 // A symbol: one that survives from the stripe, a lost one from the spare strip; the empty part where `look_up_verdict`
 // refuses, and only there.
 pub fn look_up<'a>(
@@ -103,17 +171,10 @@ pub fn look_up<'a>(
     ensures answer { λ r. ⌜ now r ≡ symbolShown (now (sheet .entry)) disk size (now (stripe .entry)) (now (spare .entry)) symbol ⌝ }
     ensures shown { λ r. ⌜ (lookUpVerdict (now (sheet .entry)) disk size (length (now (stripe .entry))) (length (now (spare .entry))) symbol ≡ Fine → 0 < length (now r)) ⌝ }
 {
-    let reading = read_code(sheet);
-    let read = reading.verdict;
-    let code = reading.code;
-    let layout = code.layout;
-    let verdict = look_up_test(read, layout, disk, size, stripe.len(), spare.len(), symbol);
-    let Verdict::Fine = verdict else {
-        return &stripe[0..0];
-    };
-    if layout.disk_of(symbol) == disk {
-        let row = symbol - layout.first_symbol(disk);
-        return &spare[row * size..(row + 1) * size];
+    let part = symbol_place(sheet, disk, size, stripe, spare, symbol);
+    let start = part.start;
+    if part.in_spare {
+        return &spare[start..start + part.length];
     }
-    &stripe[symbol * size..(symbol + 1) * size]
+    &stripe[start..start + part.length]
 }

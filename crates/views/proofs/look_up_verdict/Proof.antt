@@ -1,12 +1,11 @@
 -- `views::look_up_verdict` meets its contract. Assumes nothing.
 use Rattle.views.proofs.ReadLaws.{layout-small}
 use Rattle.views.proofs.LookUpLaws.{look-up-verdict-is}
-use borrow.Author.Needs.{needs}
 use Rattle.views.proofs.look_up_verdict.Statement.{statement}
 use Rattle.views.proofs.look_up_verdict.Tie as tie
 
 read-code-requires : tie.Need-read-code-requires
-read-code-requires c κs = search needs
+read-code-requires c κs = tt
 
 look-up-test-requires : tie.Need-look-up-test-requires
 look-up-test-requires c κs =

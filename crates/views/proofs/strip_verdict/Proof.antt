@@ -1,12 +1,11 @@
 -- `views::strip_verdict` meets its contract. Assumes nothing.
 use Rattle.views.proofs.ReadLaws.{layout-small}
 use Rattle.views.proofs.StripLaws.{strip-verdict-is}
-use borrow.Author.Needs.{needs}
 use Rattle.views.proofs.strip_verdict.Statement.{statement}
 use Rattle.views.proofs.strip_verdict.Tie as tie
 
 read-code-requires : tie.Need-read-code-requires
-read-code-requires c κs = search needs
+read-code-requires c κs = tt
 
 strip-test-requires : tie.Need-strip-test-requires
 strip-test-requires c κs =
