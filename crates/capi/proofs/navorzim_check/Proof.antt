@@ -1,0 +1,21 @@
+-- `capi::navorzim_check` meets its contract: it is `check`, and what goes out tells acceptance. Assumes nothing.
+use mathlib.Core.Path.{ap, _∙_}
+use Rattle.capi.proofs.AnswerLaws.{accepted-out-exactly}
+use Rattle.capi.specs.Answers.{outChecked}
+use Rattle.capi.proofs.navorzim_check.Statement.{statement}
+use Rattle.capi.proofs.navorzim_check.Tie as tie
+
+check-requires : tie.Need-check-requires
+check-requires c κs = tt
+
+out-checked-requires : tie.Need-out-checked-requires
+out-checked-requires c κs = tt
+
+returns : tie.Need-returns
+returns c =
+    let check = c .before .check in
+    let told = c .out-checked .ensures in
+    (told ∙ ap outChecked (check .ensures .0), accepted-out-exactly told (check .ensures .1))
+
+pub navorzim-check-spec : {M : Type 1} → statement M
+navorzim-check-spec = tie.close (tie.spec check-requires out-checked-requires returns)

@@ -1,0 +1,51 @@
+-- `capi::out_planned` meets its contract, by cases on what planning answered. Assumes nothing.
+use mathlib.Core.Path.{sym, ap, ap₂, _∙_}
+use Prim.Native.Nat.{ℕ}
+use borrow.Author.Needs.{needs}
+use Rattle.capi.specs.Answers.{outPlanned}
+use Rattle.capi.specs.declared.OutPlanned.{OutPlanned}
+use Rattle.capi.proofs.out_planned.Statement.{statement}
+use Rattle.capi.proofs.out_planned.Tie as tie
+
+enum-known-planned : tie.Need-enum-known-planned
+enum-known-planned c = search needs
+
+enum-known-planned-2 : tie.Need-enum-known-planned-2
+enum-known-planned-2 c = search needs
+
+enum-known-planned-3 : tie.Need-enum-known-planned-3
+enum-known-planned-3 c = search needs
+
+number-requires : tie.Need-number-requires
+number-requires c κs = tt
+
+place-requires : tie.Need-place-requires
+place-requires c κs = tt
+
+-- A refusal's number and place, and nothing else
+abbrev refused : ℕ → ℕ → OutPlanned
+refused number place = record { number = number; place = place; length = 0; reads = 0; pattern = 0 }
+
+returns : tie.Need-returns
+returns c = ap outPlanned (sym (c .before .planned .given .1))
+
+returns-2 : tie.Need-returns-2
+returns-2 c = ap outPlanned (sym (c .before .planned2 .given .1))
+
+returns-3 : tie.Need-returns-3
+returns-3 c =
+    ap₂ refused (c .before .number .ensures) (c .place .ensures)
+    ∙ ap outPlanned (sym (c .before .before .before .planned3 .given .1))
+
+pub out-planned-spec : {M : Type 1} → statement M
+out-planned-spec =
+    tie.close
+    (tie.spec
+    enum-known-planned
+    enum-known-planned-2
+    enum-known-planned-3
+    number-requires
+    place-requires
+    returns
+    returns-2
+    returns-3)

@@ -1,0 +1,185 @@
+/* navorzim.h: plan, check and rebuild for small disk arrays that are coded with XOR.
+ *
+ * The functions are in libcapi.a, which `rt staticlib capi` proves and writes to target/staticlib/ (x86-64 Linux, position independent).
+ * Each of them is proved to answer, and to leave in every buffer, what its paragraph below says, for any input: no argument has to be
+ * tested by the caller first. What the caller owes is under "Buffers".
+ *
+ *
+ * The parameters, in the order in which they come
+ *
+ *   n            disks in the array                                       2 to 64
+ *   r            symbols on each disk: the rows                           1 to 32
+ *   N            symbols in the array, n * r                              at most 64
+ *   K            data symbols                                             1 to 64
+ *   L            bytes in a symbol                                        1 to 65,536
+ *
+ *   sheet        a code sheet: n, r, K and the generator matrix           22 to 518 bytes, 6 + 8 * N
+ *   plan         a plan sheet: the steps that rebuild one disk            9 to 3,081 bytes, 9 + 3 * steps
+ *   disk         the failed disk, or the one asked for                    0 to n - 1
+ *   size         L
+ *   contents     the data symbols one after the other                     K * L bytes
+ *   stripe       all symbols one after the other; symbol s, which is      N * L bytes
+ *                row s % r of disk s / r, at bytes s * L up to (s + 1) * L
+ *   spare        the strip of the failed disk, on another disk            r * L bytes
+ *   symbol       a symbol's number, disk * r + row                        0 to N - 1
+ *   buffer       where a sheet is to be written
+ *   .._length    the bytes of the buffer named before it
+ *
+ * A symbol is the XOR of the data symbols whose bits are set in its row of the generator matrix. Bit 0 is the lowest.
+ *
+ *
+ * Answers and refusals
+ *
+ * Every answer but a navorzim_part has `number` and `place`. Number 0 with place 0: nothing was refused. Otherwise the call refused its input
+ * for the reason with that number, the first in its order, its other values are 0, and NO BYTE of any buffer has changed. The place is 0
+ * but where the table names one.
+ *
+ *   number  given when                                                                 place
+ *    1, 2   the code sheet is too short, too long
+ *    3      its first count isn't 4, or its second isn't N
+ *    4      its edition isn't 1
+ *    5      its n, r, N or K is beyond a limit
+ *    6      a bit at K or above is set in its matrix                                   row * 64 + bit of the first
+ *    7      the disk isn't below n
+ *   11, 12  the plan sheet is too short, too long
+ *   13      its first count isn't 6, or it has more than 1,024 steps
+ *   14      its edition isn't 1
+ *   15      its n, r or K isn't the code's
+ *   16      its failed disk isn't the one asked about
+ *   17      a step's kind is above 2, a number isn't below N, or a clear has a source  the step, from 0
+ *   18      a step's target isn't on the failed disk                                   the step
+ *   19      a step uses a lost place that no earlier step has filled                   the step
+ *   20      a lost symbol is never filled                                              its row, the lowest
+ *   21      a lost symbol ends wrong                                                   its row, the lowest
+ *   22      the plan's read count isn't the true one                                   the true count
+ *   31      L is 0 or above 65,536
+ *   32      the stripe isn't N * L bytes
+ *   33      the data aren't K * L bytes
+ *   34      the plan buffer has fewer than 3,081 bytes
+ *   35      the spare strip isn't r * L bytes
+ *   36      the family has no such parameters, or its n, N or r is above a limit
+ *   37      the sheet buffer is shorter than the sheet to be written
+ *   38      the symbol isn't below N
+ *
+ * The order of "the code sheet's" is 1 (under 6 bytes), 3 (first count), 4, 5, 3 (second count), 1, 2, 6. That of "the plan sheet's" is
+ * 11 (under 9 bytes), 13 (first count), 14, 15, 16, 13 (steps), 11, 12; then 17, 18, 19 of each step in turn; then 20, 21, 22.
+ *
+ *
+ * Buffers
+ *
+ * A buffer is a pointer and the number of bytes behind it; there is no alignment. All of them must be readable, and writable where the
+ * pointer is not to const. A buffer that a call writes must not overlap any other buffer of that call; those that it only reads may. Nobody
+ * else may write any of them while the call runs. A length of 0 goes with any pointer, NULL too: nothing is read or written through it.
+ * No call keeps a pointer, allocates, does input or output, or has any state: calls on different buffers may run in as many threads as
+ * there are. A code or a plan is never remembered from one call to the next; every call reads and tests its sheets anew.
+ */
+#ifndef NAVORZIM_H
+#define NAVORZIM_H
+
+#include <stddef.h>
+#include <stdint.h>
+
+#ifdef __cplusplus
+extern "C" {
+#endif
+
+/* No sheet is longer than this: a buffer of this length always suffices. A plan buffer must have this length. */
+#define NAVORZIM_SHEET_BYTES 518
+#define NAVORZIM_PLAN_BYTES 3081
+
+/* Nothing refused (0, 0), or the refusal. */
+typedef struct {
+    uint64_t number, place;
+} navorzim_verdict;
+
+/* The length of the code sheet that was written; 0 on a refusal. */
+typedef struct {
+    uint64_t number, place, length;
+} navorzim_sheet;
+
+/* Number 0: accepted. reads: how many distinct surviving symbols the plan reads. */
+typedef struct {
+    uint64_t number, place, reads;
+} navorzim_checked;
+
+/* Exactly one of number, length and pattern is not 0. number: refused. length: a plan of so many bytes, and it reads so many symbols.
+ * pattern: no plan exists, and this is why (see navorzim_plan). */
+typedef struct {
+    uint64_t number, place, length, reads, pattern;
+} navorzim_planned;
+
+/* Bytes start up to start + length of slice 0, the stripe, or of slice 1, the spare strip. Length 0: refused. */
+typedef struct {
+    uint64_t slice, start, length;
+} navorzim_part;
+
+
+/* ---------------------------------------------------------------------------------------------------------------------------------
+ * Codes by name. Each writes the family's code sheet, 6 + 8 * N bytes, to the front of the buffer and answers its length; the bytes behind
+ * it stay. Data disk c, row j is data symbol c * r + j; the parity disks follow the data disks.
+ * Refusals: 36, 37. */
+
+/* One parity disk, the XOR of the data disks. data_disks and rows from 1, with n = data_disks + 1 and r = rows within the limits. */
+navorzim_sheet navorzim_single_parity(uint64_t data_disks, uint64_t rows, uint8_t *buffer, size_t buffer_length);
+
+/* Liberation (Plank): w is 3, 5 or 7, data_disks 2 to w; r = w, two parity disks. */
+navorzim_sheet navorzim_liberation(uint64_t w, uint64_t data_disks, uint8_t *buffer, size_t buffer_length);
+
+/* Row-diagonal parity over the data disks: p is 3, 5 or 7; p - 1 data disks, r = p - 1, two parity disks. */
+navorzim_sheet navorzim_row_diagonal(uint64_t p, uint8_t *buffer, size_t buffer_length);
+
+
+/* ---------------------------------------------------------------------------------------------------------------------------------
+ * Encode: writes the whole stripe, N * L bytes, from the K data symbols; the data stay as they are.
+ * Refusals: the code sheet's, 31, 33, 32. */
+navorzim_verdict navorzim_encode(const uint8_t *sheet, size_t sheet_length, uint64_t size, const uint8_t *contents, size_t contents_length,
+                                 uint8_t *stripe, size_t stripe_length);
+
+/* ---------------------------------------------------------------------------------------------------------------------------------
+ * Check: is this plan right for this code and this failed disk? It is accepted exactly when it brings back every lost symbol of every
+ * valid stripe, whatever the lost strip holds, from surviving symbols and places that it has filled itself, and states the number of
+ * symbols that it reads. Writes nothing.
+ * Refusals: the code sheet's, 7, the plan sheet's. */
+navorzim_checked navorzim_check(const uint8_t *sheet, size_t sheet_length, uint64_t disk, const uint8_t *plan, size_t plan_length);
+
+/* ---------------------------------------------------------------------------------------------------------------------------------
+ * Plan: how can this disk be rebuilt from the others?
+ * If it can, a plan sheet is written to the front of the buffer, which must have 3,081 bytes or more, and its length and read count are
+ * answered; the bytes behind it stay. The plan has at most r * (N - r) steps, and navorzim_check accepts these very bytes with this very
+ * count. It need not be the one that reads the fewest symbols.
+ * If it can't, by any plan of any length, nothing is written and a pattern is answered: K bits, not all 0. The stripe of the data in which
+ * the symbols of the set bits are 01 bytes and the others 0 is 0 on every surviving disk and not 0 on the lost one.
+ * Refusals: the code sheet's, 7, 34. */
+navorzim_planned navorzim_plan(const uint8_t *sheet, size_t sheet_length, uint64_t disk, uint8_t *buffer, size_t buffer_length);
+
+/* ---------------------------------------------------------------------------------------------------------------------------------
+ * Rebuild: checks the plan, on every call, and then runs its steps on the stripe. The r * L bytes of the failed disk are written, from
+ * byte disk * r * L on; all others stay. Of a valid stripe with that strip ruined it makes that stripe again. What is written never depends
+ * on what the lost strip held.
+ * Refusals: those of navorzim_check, 31, 32. */
+navorzim_verdict navorzim_rebuild(const uint8_t *sheet, size_t sheet_length, uint64_t disk, const uint8_t *plan, size_t plan_length,
+                                  uint64_t size, uint8_t *stripe, size_t stripe_length);
+
+/* ---------------------------------------------------------------------------------------------------------------------------------
+ * One strip: where the r * L bytes of a disk stand in the stripe (slice 0). Reads the sheet alone; writes nothing. Where it refuses, the
+ * answer is 0, 0, 0, and the verdict of the same arguments says why; where it doesn't, that verdict is 0, 0.
+ * Refusals: the code sheet's, 7, 31, 32. */
+navorzim_part navorzim_strip(const uint8_t *sheet, size_t sheet_length, uint64_t disk, uint64_t size, const uint8_t *stripe,
+                             size_t stripe_length);
+navorzim_verdict navorzim_strip_verdict(const uint8_t *sheet, size_t sheet_length, uint64_t disk, uint64_t size, const uint8_t *stripe,
+                                        size_t stripe_length);
+
+/* ---------------------------------------------------------------------------------------------------------------------------------
+ * Look up: where the L bytes of a symbol stand while `disk` is away and its strip is on a spare: a symbol that survives in the stripe
+ * (slice 0), a lost one in the spare strip (slice 1). Reads the sheet alone; writes nothing. A refusal is as with one strip.
+ * Refusals: the code sheet's, 7, 31, 32, 35, 38. */
+navorzim_part navorzim_look_up(const uint8_t *sheet, size_t sheet_length, uint64_t disk, uint64_t size, const uint8_t *stripe,
+                               size_t stripe_length, const uint8_t *spare, size_t spare_length, uint64_t symbol);
+navorzim_verdict navorzim_look_up_verdict(const uint8_t *sheet, size_t sheet_length, uint64_t disk, uint64_t size, const uint8_t *stripe,
+                                          size_t stripe_length, const uint8_t *spare, size_t spare_length, uint64_t symbol);
+
+#ifdef __cplusplus
+}
+#endif
+
+#endif
