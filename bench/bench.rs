@@ -1,76 +1,165 @@
-//! The proved library against simple Rust doing the identical work, in turn, in one process. Medians of 101 rounds.
+//! The proved library against simple Rust doing the identical work, and against Jerasure and ISA-L rebuilding the same disk, in turn, in one
+//! process. Medians of 101 rounds.
 use std::hint::black_box;
 use std::time::Instant;
 
-/// The proved calls.
+/// The proved calls, by their interface for C. A refusal is its number; a read count is 1000 plus it; a pattern is 999.
 mod proved {
-    extern "C" {
-        fn navorzim_encode(
-            sheet: *const u8,
-            sheet_length: usize,
-            size: usize,
-            contents: *const u8,
-            contents_length: usize,
-            stripe: *mut u8,
-            stripe_length: usize,
-        ) -> u64;
-        fn navorzim_rebuild(
-            sheet: *const u8,
-            sheet_length: usize,
-            disk: usize,
-            plan: *const u8,
-            plan_length: usize,
-            size: usize,
-            stripe: *mut u8,
-            stripe_length: usize,
-        ) -> u64;
-        fn navorzim_check(
-            sheet: *const u8,
-            sheet_length: usize,
-            disk: usize,
-            plan: *const u8,
-            plan_length: usize,
-        ) -> u64;
+    #[repr(C)]
+    struct Verdict {
+        number: u64,
+        place: u64,
     }
 
+    #[repr(C)]
+    struct Checked {
+        number: u64,
+        place: u64,
+        reads: u64,
+    }
+
+    #[repr(C)]
+    struct Planned {
+        number: u64,
+        place: u64,
+        length: u64,
+        reads: u64,
+        pattern: u64,
+    }
+
+    type Bytes = *const u8;
+    type BytesMut = *mut u8;
+
+    extern "C" {
+        fn navorzim_encode(s: Bytes, sl: usize, size: u64, c: Bytes, cl: usize, stripe: BytesMut, stripe_length: usize) -> Verdict;
+        fn navorzim_rebuild(s: Bytes, sl: usize, disk: u64, p: Bytes, pl: usize, size: u64, stripe: BytesMut, stripe_length: usize) -> Verdict;
+        fn navorzim_plan(s: Bytes, sl: usize, disk: u64, buffer: BytesMut, buffer_length: usize) -> Planned;
+        fn navorzim_check(s: Bytes, sl: usize, disk: u64, p: Bytes, pl: usize) -> Checked;
+    }
+
+    // SAFETY, for each call: a pointer is that of a slice with the length beside it, and what is written is lent for the call alone.
+
     pub fn encode(sheet: &[u8], size: usize, contents: &[u8], stripe: &mut [u8]) -> u64 {
-        // SAFETY: each pointer is that of a slice with the length beside it, and the stripe is lent for the call alone.
-        unsafe {
-            navorzim_encode(
-                sheet.as_ptr(),
-                sheet.len(),
-                size,
-                contents.as_ptr(),
-                contents.len(),
-                stripe.as_mut_ptr(),
-                stripe.len(),
-            )
-        }
+        let (c, x) = ((contents.as_ptr(), contents.len()), (stripe.as_mut_ptr(), stripe.len()));
+        unsafe { navorzim_encode(sheet.as_ptr(), sheet.len(), size as u64, c.0, c.1, x.0, x.1).number }
     }
 
     pub fn rebuild(sheet: &[u8], disk: usize, plan: &[u8], size: usize, stripe: &mut [u8]) -> u64 {
-        // SAFETY: each pointer is that of a slice with the length beside it, and the stripe is lent for the call alone.
-        unsafe {
-            navorzim_rebuild(
-                sheet.as_ptr(),
-                sheet.len(),
-                disk,
-                plan.as_ptr(),
-                plan.len(),
-                size,
-                stripe.as_mut_ptr(),
-                stripe.len(),
-            )
+        let (p, x) = ((plan.as_ptr(), plan.len()), (stripe.as_mut_ptr(), stripe.len()));
+        unsafe { navorzim_rebuild(sheet.as_ptr(), sheet.len(), disk as u64, p.0, p.1, size as u64, x.0, x.1).number }
+    }
+
+    pub fn plan(sheet: &[u8], disk: usize, buffer: &mut [u8]) -> u64 {
+        let planned = unsafe { navorzim_plan(sheet.as_ptr(), sheet.len(), disk as u64, buffer.as_mut_ptr(), buffer.len()) };
+        match planned {
+            Planned { number, .. } if number != 0 => number,
+            Planned { length: 0, .. } => 999,
+            Planned { reads, .. } => 1000 + reads,
         }
     }
 
     pub fn check(sheet: &[u8], disk: usize, plan: &[u8]) -> u64 {
-        // SAFETY: each pointer is that of a slice with the length beside it, lent for reading alone.
-        unsafe { navorzim_check(sheet.as_ptr(), sheet.len(), disk, plan.as_ptr(), plan.len()) }
+        let checked = unsafe { navorzim_check(sheet.as_ptr(), sheet.len(), disk as u64, plan.as_ptr(), plan.len()) };
+        if checked.number != 0 {
+            checked.number
+        } else {
+            1000 + checked.reads
+        }
     }
 }
 
-/// The same work without proof. A refusal is its number; a read count is 1000 plus it.
+/// Jerasure's decoding of Liberation w 5, k 5 by a schedule made once and kept. It tests nothing.
+#[cfg(jerasure)]
+mod jerasure {
+    use std::os::raw::{c_char, c_int};
+
+    extern "C" {
+        fn liberation_coding_bitmatrix(k: c_int, w: c_int) -> *mut c_int;
+        fn jerasure_generate_schedule_cache(k: c_int, m: c_int, w: c_int, bitmatrix: *mut c_int, smart: c_int) -> *mut *mut *mut c_int;
+        fn jerasure_schedule_decode_cache(
+            k: c_int,
+            m: c_int,
+            w: c_int,
+            cache: *mut *mut *mut c_int,
+            erasures: *mut c_int,
+            data: *mut *mut c_char,
+            coding: *mut *mut c_char,
+            size: c_int,
+            packet: c_int,
+        ) -> c_int;
+    }
+
+    pub struct Decoder(*mut *mut *mut c_int);
+
+    impl Decoder {
+        pub fn new() -> Decoder {
+            // SAFETY: both calls take small numbers, and the second the matrix that the first allocated.
+            unsafe { Decoder(jerasure_generate_schedule_cache(5, 2, 5, liberation_coding_bitmatrix(5, 5), 1)) }
+        }
+
+        /// Disk 0 rebuilt; a symbol is a packet, and its length a multiple of 8.
+        pub fn rebuild(&self, size: usize, stripe: &mut [u8]) -> u64 {
+            assert!(stripe.len() == 35 * size && size % 8 == 0);
+            let mut disks: Vec<*mut c_char> = stripe.chunks_mut(5 * size).map(|disk| disk.as_mut_ptr().cast()).collect();
+            let (data, coding) = disks.split_at_mut(5);
+            let mut erasures = [0, -1];
+            // SAFETY: seven disks of five packets each, apart from one another, as the matrix has them.
+            unsafe {
+                jerasure_schedule_decode_cache(
+                    5,
+                    2,
+                    5,
+                    self.0,
+                    erasures.as_mut_ptr(),
+                    data.as_mut_ptr(),
+                    coding.as_mut_ptr(),
+                    (5 * size) as c_int,
+                    size as c_int,
+                ) as u64
+            }
+        }
+    }
+}
+
+/// ISA-L's XOR of several sources, once for each lost symbol of a plan. It tests nothing.
+#[cfg(isal)]
+mod isal {
+    use std::os::raw::{c_int, c_void};
+
+    extern "C" {
+        fn xor_gen(vects: c_int, len: c_int, array: *mut *mut c_void) -> c_int;
+    }
+
+    /// For each lost symbol its sources.
+    pub fn sums(plan: &[u8]) -> Vec<(usize, Vec<usize>)> {
+        let mut sums: Vec<(usize, Vec<usize>)> = Vec::new();
+        for step in plan[9..].chunks_exact(3) {
+            match sums.last_mut() {
+                Some((target, sources)) if *target == step[1] as usize => sources.push(step[2] as usize),
+                _ => sums.push((step[1] as usize, vec![step[2] as usize])),
+            }
+        }
+        sums
+    }
+
+    /// Each lost symbol from its sources; the stripe begins at a multiple of 32, and so does every symbol.
+    pub fn rebuild(sums: &[(usize, Vec<usize>)], size: usize, stripe: &mut [u8]) -> u64 {
+        let start = stripe.as_mut_ptr();
+        assert!(start as usize % 32 == 0 && size % 32 == 0);
+        let mut failed = 0;
+        for (target, sources) in sums {
+            let mut array = [std::ptr::null_mut(); 64];
+            for (place, s) in array.iter_mut().zip(sources.iter().chain([target])) {
+                *place = stripe[s * size..(s + 1) * size].as_mut_ptr().cast::<c_void>();
+            }
+            // SAFETY: the vectors are symbols of the stripe, `size` bytes each, and the last is none of the others.
+            failed |= unsafe { xor_gen(sources.len() as c_int + 1, size as c_int, array.as_mut_ptr()) };
+        }
+        failed as u64
+    }
+}
+
+/// The same work without proof, with answers as above.
 mod simple {
     pub struct Code {
         n: usize,
@@ -219,6 +308,85 @@ mod simple {
         1000 + reads as u64
     }
 
+    /// Overlap by the processor's count of ones.
+    pub fn odd_by_count(a: u64, b: u64) -> bool {
+        (a & b).count_ones() % 2 == 1
+    }
+
+    /// Overlap bit by bit, as the proved leaf does it today.
+    pub fn odd_by_bits(a: u64, b: u64) -> bool {
+        let (set, mut ones) = (a & b, 0);
+        for bit in 0..64 {
+            if (set >> bit) % 2 == 1 {
+                ones += 1;
+            }
+        }
+        ones % 2 == 1
+    }
+
+    /// Planning by the same method: patterns reduced row by row, then back substitution.
+    #[inline(never)]
+    pub fn plan(sheet: &[u8], disk: usize, buffer: &mut [u8], odd: impl Fn(u64, u64) -> bool) -> u64 {
+        let code = match read(sheet) {
+            Ok(code) => code,
+            Err(number) => return number,
+        };
+        if disk >= code.n {
+            return 7;
+        }
+        if buffer.len() < 3081 {
+            return 34;
+        }
+        let symbols = code.n * code.r;
+        let lost = disk * code.r..(disk + 1) * code.r;
+        let mut rows = code.rows;
+        rows[lost.clone()].fill(0);
+        let mut patterns = [0u64; 64];
+        for (bit, pattern) in patterns.iter_mut().take(code.k).enumerate() {
+            *pattern = 1 << bit;
+        }
+        let mut pivots = [0u64; 64];
+        for s in 0..symbols {
+            for pattern in &mut patterns[..code.k] {
+                if odd(*pattern, rows[s]) {
+                    if pivots[s] == 0 {
+                        pivots[s] = *pattern;
+                    }
+                    *pattern ^= pivots[s];
+                }
+            }
+        }
+        for t in lost.clone() {
+            if patterns[..code.k].iter().any(|&pattern| odd(pattern, code.rows[t])) {
+                return 999;
+            }
+        }
+        let (mut steps, mut sources) = (0, 0u64);
+        for t in lost {
+            let (mut left, mut subset) = (code.rows[t], 0u64);
+            for s in (0..symbols).rev() {
+                if pivots[s] != 0 && odd(pivots[s], left) {
+                    left ^= rows[s];
+                    subset |= 1 << s;
+                }
+            }
+            sources |= subset;
+            let mut kind = 1;
+            for s in (0..symbols).filter(|s| subset >> s & 1 == 1) {
+                buffer[9 + 3 * steps..12 + 3 * steps].copy_from_slice(&[kind, t as u8, s as u8]);
+                (kind, steps) = (2, steps + 1);
+            }
+            if subset == 0 {
+                buffer[9 + 3 * steps..12 + 3 * steps].copy_from_slice(&[0, t as u8, 0]);
+                steps += 1;
+            }
+        }
+        let reads = sources.count_ones() as u8;
+        let head = [6, 1, code.n as u8, code.r as u8, code.k as u8, disk as u8, reads, (steps % 256) as u8, (steps / 256) as u8];
+        buffer[..9].copy_from_slice(&head);
+        1000 + reads as u64
+    }
+
     #[inline(never)]
     pub fn rebuild(sheet: &[u8], disk: usize, plan: &[u8], size: usize, stripe: &mut [u8]) -> u64 {
         let answer = check(sheet, disk, plan);
@@ -273,6 +441,29 @@ fn liberation_sheet(w: usize, k: usize) -> Vec<u8> {
     sheet
 }
 
+/// The sheet of a code with K 64 on two disks of 32 rows: every row has about half its bits, so that elimination has most to do.
+fn dense_sheet() -> Vec<u8> {
+    let mut state = 1u64;
+    let mut sheet = vec![4, 1, 2, 32, 64, 64];
+    for _ in 0..64 {
+        state = state.wrapping_mul(6364136223846793005).wrapping_add(1442695040888963407);
+        sheet.extend((state ^ state >> 29).to_le_bytes());
+    }
+    sheet
+}
+
+/// The sheet of a code with N 64, K 64 whose disk 0 can be rebuilt: 32 rows of disk 1 with about half their bits, and on disk 0 sums of them.
+fn dense_plannable_sheet() -> Vec<u8> {
+    let mut sheet = dense_sheet();
+    let row = |sheet: &[u8], s: usize| u64::from_le_bytes(sheet[6 + 8 * s..14 + 8 * s].try_into().unwrap());
+    for s in 0..32 {
+        let chosen = row(&sheet, s);
+        let sum = (0..32).filter(|b| chosen >> b & 1 == 1).fold(0, |sum, b| sum ^ row(&sheet, 32 + b));
+        sheet[6 + 8 * s..14 + 8 * s].copy_from_slice(&sum.to_le_bytes());
+    }
+    sheet
+}
+
 /// The plan for disk 0 of w 5, k 5: rows 0 and 1 from P, rows 2 to 4 from Q. It reads 20 symbols in 28 steps.
 fn plan_with_20_reads() -> Vec<u8> {
     let rows = liberation_rows(5, 5);
@@ -310,49 +501,101 @@ fn interleaved(calls: usize, mut ours: impl FnMut() -> u64, mut theirs: impl FnM
     (median(&mut a), median(&mut b))
 }
 
-fn print(what: &str, (ours, theirs): (f64, f64)) {
-    println!("{what:<16} proved {ours:>8.0} ns, simple Rust {theirs:>8.0} ns, ratio {:.2}", ours / theirs);
+/// One line of the table: microseconds of both sides, and the ratio.
+fn row(what: &str, other: &str, (ours, theirs): (f64, f64)) {
+    println!("| {what} | {other} | {:.1} | {:.1} | {:.2} |", ours / 1000.0, theirs / 1000.0, ours / theirs);
+}
+
+/// A stripe that begins at a multiple of 64, as ISA-L asks.
+struct Aligned {
+    bytes: Vec<u8>,
+    start: usize,
+    length: usize,
+}
+
+impl Aligned {
+    fn of(stripe: &[u8]) -> Aligned {
+        let mut bytes = vec![0; stripe.len() + 64];
+        let start = bytes.as_ptr().align_offset(64);
+        bytes[start..start + stripe.len()].copy_from_slice(stripe);
+        Aligned { bytes, start, length: stripe.len() }
+    }
+
+    fn stripe(&mut self) -> &mut [u8] {
+        &mut self.bytes[self.start..self.start + self.length]
+    }
+}
+
+fn encoding(sheet: &[u8], size: usize) {
+    let contents: Vec<u8> = (0..25 * size).map(|i| (i * 7 + i / 251) as u8).collect();
+    let (mut ours, mut theirs) = (vec![1u8; 35 * size], vec![2u8; 35 * size]);
+    assert_eq!(proved::encode(sheet, size, &contents, &mut ours), 0);
+    assert_eq!(simple::encode(sheet, size, &contents, &mut theirs), 0);
+    assert!(ours == theirs, "the two encoders disagree");
+    let calls = (2_000_000 / (size * 60 + 2000)).max(1);
+    let times = interleaved(
+        calls,
+        || proved::encode(sheet, size, &contents, &mut ours),
+        || simple::encode(sheet, size, &contents, &mut theirs),
+    );
+    row(&format!("encode, L {size}"), "simple Rust", times);
+}
+
+fn planning(what: &str, sheet: &[u8], answer: u64) {
+    let (mut ours, mut theirs) = (vec![1u8; 3081], vec![1u8; 3081]);
+    assert_eq!(proved::plan(sheet, 0, &mut ours), answer);
+    assert_eq!(simple::plan(sheet, 0, &mut theirs, simple::odd_by_count), answer);
+    assert!(ours == theirs, "the two planners disagree");
+    let by_bits = || simple::plan(sheet, 0, &mut theirs, simple::odd_by_bits);
+    row(&format!("plan, {what}"), "simple Rust, overlap bit by bit", interleaved(10, || proved::plan(sheet, 0, &mut ours), by_bits));
+    let by_count = || simple::plan(sheet, 0, &mut theirs, simple::odd_by_count);
+    row(&format!("plan, {what}"), "simple Rust, count of ones", interleaved(10, || proved::plan(sheet, 0, &mut ours), by_count));
+}
+
+fn rebuilding(sheet: &[u8], plan: &[u8], size: usize) {
+    let contents: Vec<u8> = (0..25 * size).map(|i| (i * 11 + i / 239) as u8).collect();
+    let mut stripe = vec![0u8; 35 * size];
+    assert_eq!(simple::encode(sheet, size, &contents, &mut stripe), 0);
+    let mut ruined = stripe.clone();
+    ruined[..5 * size].fill(0xff);
+    let calls = (2_000_000 / (size * 30 + 1000)).max(1);
+    let what = format!("rebuild, L {size}");
+    let against = |other: &str, work: &mut dyn FnMut(&mut [u8]) -> u64| {
+        let (mut ours, mut theirs) = (Aligned::of(&ruined), Aligned::of(&ruined));
+        assert_eq!((proved::rebuild(sheet, 0, plan, size, ours.stripe()), work(theirs.stripe())), (0, 0));
+        assert!(ours.stripe() == stripe && theirs.stripe() == stripe, "a rebuild is wrong: {other}");
+        let times = interleaved(calls, || proved::rebuild(sheet, 0, plan, size, ours.stripe()), || work(theirs.stripe()));
+        row(&what, other, times);
+    };
+    against("simple Rust", &mut |stripe| simple::rebuild(sheet, 0, plan, size, stripe));
+    #[cfg(jerasure)]
+    if size % 8 == 0 {
+        let decoder = jerasure::Decoder::new();
+        against("Jerasure, cached schedule, no test", &mut |stripe| decoder.rebuild(size, stripe));
+    }
+    #[cfg(isal)]
+    if size % 32 == 0 {
+        let sums = isal::sums(plan);
+        against("ISA-L xor_gen, no test", &mut |stripe| isal::rebuild(&sums, size, stripe));
+    }
 }
 
 fn main() {
     let sheet = liberation_sheet(5, 5);
-    println!("Liberation w 5, k 5; medians of 101 interleaved rounds");
-    for size in [1usize, 64, 4096, 65536] {
-        let contents: Vec<u8> = (0..25 * size).map(|i| (i * 7 + i / 251) as u8).collect();
-        let (mut ours, mut theirs) = (vec![1u8; 35 * size], vec![2u8; 35 * size]);
-        assert_eq!(proved::encode(&sheet, size, &contents, &mut ours), 0);
-        assert_eq!(simple::encode(&sheet, size, &contents, &mut theirs), 0);
-        assert!(ours == theirs, "the two encoders disagree");
-        let calls = (2_000_000 / (size * 60 + 2000)).max(1);
-        let times = interleaved(
-            calls,
-            || proved::encode(&sheet, size, &contents, &mut ours),
-            || simple::encode(&sheet, size, &contents, &mut theirs),
-        );
-        print(&format!("encode, L {size}"), times);
+    let sizes = [1usize, 64, 4096, 65536];
+    println!("| call | against | proved, µs | other, µs | ratio |");
+    println!("|---|---|---|---|---|");
+    for size in sizes {
+        encoding(&sheet, size);
     }
+    planning("N 64, K 64", &dense_plannable_sheet(), 1032);
+    planning("N 64, K 64, none exists", &dense_sheet(), 999);
+    planning("Liberation w 7, k 7", &liberation_sheet(7, 7), 1049);
     let plan = plan_with_20_reads();
-    assert_eq!(plan.len(), 9 + 3 * 28);
-    assert_eq!(proved::check(&sheet, 0, &plan), 1020);
-    assert_eq!(simple::check(&sheet, 0, &plan), 1020);
+    assert_eq!((proved::check(&sheet, 0, &plan), simple::check(&sheet, 0, &plan)), (1020, 1020));
     let times = interleaved(1000, || proved::check(&sheet, 0, black_box(&plan)), || simple::check(&sheet, 0, black_box(&plan)));
-    print("check, 28 steps", times);
-    for size in [1usize, 64, 4096, 65536] {
-        let contents: Vec<u8> = (0..25 * size).map(|i| (i * 11 + i / 239) as u8).collect();
-        let mut stripe = vec![0u8; 35 * size];
-        assert_eq!(simple::encode(&sheet, size, &contents, &mut stripe), 0);
-        let (mut ours, mut theirs) = (stripe.clone(), stripe.clone());
-        ours[..5 * size].fill(0xff);
-        theirs[..5 * size].fill(0xee);
-        assert_eq!(proved::rebuild(&sheet, 0, &plan, size, &mut ours), 0);
-        assert_eq!(simple::rebuild(&sheet, 0, &plan, size, &mut theirs), 0);
-        assert!(ours == stripe && theirs == stripe, "a rebuild is wrong");
-        let calls = (2_000_000 / (size * 30 + 1000)).max(1);
-        let times = interleaved(
-            calls,
-            || proved::rebuild(&sheet, 0, &plan, size, &mut ours),
-            || simple::rebuild(&sheet, 0, &plan, size, &mut theirs),
-        );
-        print(&format!("rebuild, L {size}"), times);
+    row("check, 28 steps", "simple Rust", times);
+    for size in sizes {
+        rebuilding(&sheet, &plan, size);
     }
 }

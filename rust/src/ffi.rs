@@ -1,0 +1,212 @@
+//! The proved calls across C's calling convention, each behind a safe function. This is the crate's only `unsafe` code.
+//!
+//! Why every call is sound: a slice goes over as its own pointer and length, so the callee sees memory that is valid for
+//! that length for the whole call; a `&mut` slice is borrowed mutably, so nothing else reads or writes it meanwhile, and no
+//! two arguments overlap; the callee is proved to stay within its slices, to end and to keep nothing behind; answers are
+//! structs of plain numbers, which have no invalid value.
+#![allow(unsafe_code)]
+
+/// Number and place of a refusal; number 0 where nothing was refused.
+#[repr(C)]
+#[derive(Clone, Copy)]
+pub struct Verdict {
+    pub number: u64,
+    pub place: u64,
+}
+
+/// A sheet that was written.
+#[repr(C)]
+#[derive(Clone, Copy)]
+pub struct Sheet {
+    pub number: u64,
+    pub place: u64,
+    pub length: u64,
+}
+
+/// A plan that was checked.
+#[repr(C)]
+#[derive(Clone, Copy)]
+pub struct Checked {
+    pub number: u64,
+    pub place: u64,
+    pub reads: u64,
+}
+
+/// A disk that was planned for: with a length a plan, with a pattern none.
+#[repr(C)]
+#[derive(Clone, Copy)]
+pub struct Planned {
+    pub number: u64,
+    pub place: u64,
+    pub length: u64,
+    pub reads: u64,
+    pub pattern: u64,
+}
+
+/// A part of the stripe (slice 0) or of the spare strip (slice 1).
+#[repr(C)]
+#[derive(Clone, Copy)]
+pub struct Part {
+    pub slice: u64,
+    pub start: u64,
+    pub length: u64,
+}
+
+type Bytes = *const u8;
+type BytesMut = *mut u8;
+
+extern "C" {
+    fn navorzim_single_parity(data_disks: u64, rows: u64, buffer: BytesMut, buffer_length: usize) -> Sheet;
+    fn navorzim_liberation(w: u64, data_disks: u64, buffer: BytesMut, buffer_length: usize) -> Sheet;
+    fn navorzim_row_diagonal(p: u64, buffer: BytesMut, buffer_length: usize) -> Sheet;
+    fn navorzim_encode(
+        sheet: Bytes,
+        sheet_length: usize,
+        size: u64,
+        contents: Bytes,
+        contents_length: usize,
+        stripe: BytesMut,
+        stripe_length: usize,
+    ) -> Verdict;
+    fn navorzim_check(sheet: Bytes, sheet_length: usize, disk: u64, plan: Bytes, plan_length: usize) -> Checked;
+    fn navorzim_plan(sheet: Bytes, sheet_length: usize, disk: u64, buffer: BytesMut, buffer_length: usize) -> Planned;
+    fn navorzim_rebuild(
+        sheet: Bytes,
+        sheet_length: usize,
+        disk: u64,
+        plan: Bytes,
+        plan_length: usize,
+        size: u64,
+        stripe: BytesMut,
+        stripe_length: usize,
+    ) -> Verdict;
+    fn navorzim_strip(
+        sheet: Bytes,
+        sheet_length: usize,
+        disk: u64,
+        size: u64,
+        stripe: Bytes,
+        stripe_length: usize,
+    ) -> Part;
+    fn navorzim_strip_verdict(
+        sheet: Bytes,
+        sheet_length: usize,
+        disk: u64,
+        size: u64,
+        stripe: Bytes,
+        stripe_length: usize,
+    ) -> Verdict;
+    fn navorzim_look_up(
+        sheet: Bytes,
+        sheet_length: usize,
+        disk: u64,
+        size: u64,
+        stripe: Bytes,
+        stripe_length: usize,
+        spare: Bytes,
+        spare_length: usize,
+        symbol: u64,
+    ) -> Part;
+    fn navorzim_look_up_verdict(
+        sheet: Bytes,
+        sheet_length: usize,
+        disk: u64,
+        size: u64,
+        stripe: Bytes,
+        stripe_length: usize,
+        spare: Bytes,
+        spare_length: usize,
+        symbol: u64,
+    ) -> Verdict;
+}
+
+// SAFETY, for each function below: as the module's comment says.
+
+pub fn single_parity(data_disks: u64, rows: u64, buffer: &mut [u8]) -> Sheet {
+    unsafe { navorzim_single_parity(data_disks, rows, buffer.as_mut_ptr(), buffer.len()) }
+}
+
+pub fn liberation(w: u64, data_disks: u64, buffer: &mut [u8]) -> Sheet {
+    unsafe { navorzim_liberation(w, data_disks, buffer.as_mut_ptr(), buffer.len()) }
+}
+
+pub fn row_diagonal(p: u64, buffer: &mut [u8]) -> Sheet {
+    unsafe { navorzim_row_diagonal(p, buffer.as_mut_ptr(), buffer.len()) }
+}
+
+pub fn encode(sheet: &[u8], size: u64, contents: &[u8], stripe: &mut [u8]) -> Verdict {
+    unsafe {
+        navorzim_encode(
+            sheet.as_ptr(),
+            sheet.len(),
+            size,
+            contents.as_ptr(),
+            contents.len(),
+            stripe.as_mut_ptr(),
+            stripe.len(),
+        )
+    }
+}
+
+pub fn check(sheet: &[u8], disk: u64, plan: &[u8]) -> Checked {
+    unsafe { navorzim_check(sheet.as_ptr(), sheet.len(), disk, plan.as_ptr(), plan.len()) }
+}
+
+pub fn plan(sheet: &[u8], disk: u64, buffer: &mut [u8]) -> Planned {
+    unsafe { navorzim_plan(sheet.as_ptr(), sheet.len(), disk, buffer.as_mut_ptr(), buffer.len()) }
+}
+
+pub fn rebuild(sheet: &[u8], disk: u64, plan: &[u8], size: u64, stripe: &mut [u8]) -> Verdict {
+    unsafe {
+        navorzim_rebuild(
+            sheet.as_ptr(),
+            sheet.len(),
+            disk,
+            plan.as_ptr(),
+            plan.len(),
+            size,
+            stripe.as_mut_ptr(),
+            stripe.len(),
+        )
+    }
+}
+
+pub fn strip(sheet: &[u8], disk: u64, size: u64, stripe: &[u8]) -> Part {
+    unsafe { navorzim_strip(sheet.as_ptr(), sheet.len(), disk, size, stripe.as_ptr(), stripe.len()) }
+}
+
+pub fn strip_verdict(sheet: &[u8], disk: u64, size: u64, stripe: &[u8]) -> Verdict {
+    unsafe { navorzim_strip_verdict(sheet.as_ptr(), sheet.len(), disk, size, stripe.as_ptr(), stripe.len()) }
+}
+
+pub fn look_up(sheet: &[u8], disk: u64, size: u64, stripe: &[u8], spare: &[u8], symbol: u64) -> Part {
+    unsafe {
+        navorzim_look_up(
+            sheet.as_ptr(),
+            sheet.len(),
+            disk,
+            size,
+            stripe.as_ptr(),
+            stripe.len(),
+            spare.as_ptr(),
+            spare.len(),
+            symbol,
+        )
+    }
+}
+
+pub fn look_up_verdict(sheet: &[u8], disk: u64, size: u64, stripe: &[u8], spare: &[u8], symbol: u64) -> Verdict {
+    unsafe {
+        navorzim_look_up_verdict(
+            sheet.as_ptr(),
+            sheet.len(),
+            disk,
+            size,
+            stripe.as_ptr(),
+            stripe.len(),
+            spare.as_ptr(),
+            spare.len(),
+            symbol,
+        )
+    }
+}

@@ -1,0 +1,219 @@
+//! Plans, checks and rebuilds for small disk arrays that are coded with XOR.
+//!
+//! The work is done by a library written in Rattle, in which every function is proved to meet its contract; this crate is its
+//! safe face. Each call tests everything itself, never panics, keeps nothing between calls, and a refused call changes no byte
+//! that it was lent. A refusal carries the number and place that document 01, the rules, gives it.
+//!
+//! An array has n disks of r symbols of L bytes each, N = n × r in all, and K data symbols. A *code sheet* (22 to 518 bytes)
+//! says which data symbols each symbol is the XOR of; a *stripe* is N × L bytes, symbol s at s × L; a *plan sheet* (9 to 3,081
+//! bytes) says how to bring a lost disk's strip back.
+//!
+//! ```
+//! use navorzim::{check, encode, make_plan, rebuild, Family, Planning};
+//!
+//! let sheet = Family::Liberation { w: 5, data_disks: 5 }.sheet()?;
+//! let data = vec![7; 25 * 64];
+//! let mut stripe = vec![0; 35 * 64];
+//! encode(&sheet, 64, &data, &mut stripe)?;
+//!
+//! // Disk 0 dies.
+//! let whole = stripe.clone();
+//! stripe[..5 * 64].fill(0xff);
+//! let Planning::Plan { plan, reads } = make_plan(&sheet, 0)? else { panic!("a Liberation array survives one disk") };
+//! assert_eq!(check(&sheet, 0, &plan), Ok(reads));
+//! rebuild(&sheet, 0, &plan, 64, &mut stripe)?;
+//! assert_eq!(stripe, whole);
+//! # Ok::<(), navorzim::Refusal>(())
+//! ```
+#![deny(unsafe_code)]
+#![warn(missing_docs)]
+
+mod ffi;
+mod refusal;
+
+pub use refusal::Refusal;
+
+/// The length of the longest code sheet.
+pub const LONGEST_CODE_SHEET: usize = 518;
+
+/// The length of the longest plan sheet, and of the buffer that planning asks for.
+pub const PLAN_BUFFER: usize = 3081;
+
+/// A family of codes that can be asked for by name.
+#[derive(Clone, Copy, Debug, PartialEq, Eq)]
+pub enum Family {
+    /// `data_disks` disks of `rows` rows, and one disk with the XOR of each row.
+    SingleParity {
+        /// k, from 1
+        data_disks: u64,
+        /// r, from 1
+        rows: u64,
+    },
+    /// Plank's Liberation codes: two parity disks, w rows.
+    Liberation {
+        /// 3, 5 or 7
+        w: u64,
+        /// 2 to w
+        data_disks: u64,
+    },
+    /// p − 1 data disks of p − 1 rows, row parity and diagonal parity.
+    RowDiagonal {
+        /// 3, 5 or 7
+        p: u64,
+    },
+}
+
+impl Family {
+    /// Writes the family's code sheet at the front of the buffer and answers its length; bytes behind it stay.
+    pub fn write_sheet(&self, buffer: &mut [u8]) -> Result<usize, Refusal> {
+        let written = match *self {
+            Family::SingleParity { data_disks, rows } => ffi::single_parity(data_disks, rows, buffer),
+            Family::Liberation { w, data_disks } => ffi::liberation(w, data_disks, buffer),
+            Family::RowDiagonal { p } => ffi::row_diagonal(p, buffer),
+        };
+        unless_refused(written.number, written.place, written.length as usize)
+    }
+
+    /// The family's code sheet.
+    ///
+    /// ```
+    /// use navorzim::{Family, Refusal};
+    /// assert_eq!(Family::RowDiagonal { p: 3 }.sheet()?.len(), 70);
+    /// assert_eq!(Family::RowDiagonal { p: 4 }.sheet(), Err(Refusal::NotInFamily));
+    /// # Ok::<(), Refusal>(())
+    /// ```
+    pub fn sheet(&self) -> Result<Vec<u8>, Refusal> {
+        let mut sheet = vec![0; LONGEST_CODE_SHEET];
+        let length = self.write_sheet(&mut sheet)?;
+        sheet.truncate(length);
+        Ok(sheet)
+    }
+}
+
+/// Encodes K data symbols of `symbol_length` bytes into the whole stripe.
+///
+/// Refused: the code sheet (1 to 6), 31, 33, 32.
+pub fn encode(sheet: &[u8], symbol_length: u64, data: &[u8], stripe: &mut [u8]) -> Result<(), Refusal> {
+    let verdict = ffi::encode(sheet, symbol_length, data, stripe);
+    unless_refused(verdict.number, verdict.place, ())
+}
+
+/// Judges a plan sheet for a code sheet and a failed disk; answers how many surviving symbols it reads.
+///
+/// Refused: the code sheet (1 to 6), 7, the plan (11 to 22).
+pub fn check(sheet: &[u8], disk: u64, plan: &[u8]) -> Result<u64, Refusal> {
+    let checked = ffi::check(sheet, disk, plan);
+    unless_refused(checked.number, checked.place, checked.reads)
+}
+
+/// What planning into a lent buffer answers.
+#[derive(Clone, Copy, Debug, PartialEq, Eq)]
+pub enum Planned {
+    /// A plan sheet stands at the front of the buffer.
+    Plan {
+        /// its length
+        length: usize,
+        /// how many surviving symbols it reads
+        reads: u64,
+    },
+    /// The disk can't be rebuilt by any plan: data with these bits gives zero on every surviving symbol and not on the lost disk.
+    Pattern(u64),
+}
+
+/// What [`make_plan`] answers.
+#[derive(Clone, Debug, PartialEq, Eq)]
+pub enum Planning {
+    /// A plan.
+    Plan {
+        /// the plan sheet
+        plan: Vec<u8>,
+        /// how many surviving symbols it reads
+        reads: u64,
+    },
+    /// As [`Planned::Pattern`].
+    Pattern(u64),
+}
+
+/// Plans the rebuild of a disk into a buffer of at least [`PLAN_BUFFER`] bytes; bytes behind the plan stay, and a pattern writes nothing.
+///
+/// Refused: the code sheet (1 to 6), 7, 34.
+pub fn plan(sheet: &[u8], disk: u64, buffer: &mut [u8]) -> Result<Planned, Refusal> {
+    let planned = ffi::plan(sheet, disk, buffer);
+    let answer = if planned.length > 0 {
+        Planned::Plan { length: planned.length as usize, reads: planned.reads }
+    } else {
+        Planned::Pattern(planned.pattern)
+    };
+    unless_refused(planned.number, planned.place, answer)
+}
+
+/// Plans the rebuild of a disk.
+///
+/// ```
+/// use navorzim::{make_plan, Planning};
+/// // Two disks of one symbol each, rows 1 and 2: nothing of disk 0 is on disk 1.
+/// let apart = [4, 1, 2, 1, 2, 2, 1, 0, 0, 0, 0, 0, 0, 0, 2, 0, 0, 0, 0, 0, 0, 0];
+/// assert_eq!(make_plan(&apart, 0), Ok(Planning::Pattern(1)));
+/// ```
+pub fn make_plan(sheet: &[u8], disk: u64) -> Result<Planning, Refusal> {
+    let mut sheet_bytes = vec![0; PLAN_BUFFER];
+    Ok(match plan(sheet, disk, &mut sheet_bytes)? {
+        Planned::Plan { length, reads } => {
+            sheet_bytes.truncate(length);
+            Planning::Plan { plan: sheet_bytes, reads }
+        }
+        Planned::Pattern(pattern) => Planning::Pattern(pattern),
+    })
+}
+
+/// Rebuilds the strip of a failed disk by a plan, which is checked on every call.
+///
+/// Refused: as [`check`], then 31, 32.
+pub fn rebuild(sheet: &[u8], disk: u64, plan: &[u8], symbol_length: u64, stripe: &mut [u8]) -> Result<(), Refusal> {
+    let verdict = ffi::rebuild(sheet, disk, plan, symbol_length, stripe);
+    unless_refused(verdict.number, verdict.place, ())
+}
+
+/// The strip of a disk, as a part of the stripe.
+///
+/// Refused: the code sheet (1 to 6), 7, 31, 32.
+pub fn strip<'a>(sheet: &[u8], disk: u64, symbol_length: u64, stripe: &'a [u8]) -> Result<&'a [u8], Refusal> {
+    let part = ffi::strip(sheet, disk, symbol_length, stripe);
+    if part.length == 0 {
+        let verdict = ffi::strip_verdict(sheet, disk, symbol_length, stripe);
+        unless_refused(verdict.number, verdict.place, ())?;
+    }
+    Ok(cut(stripe, part))
+}
+
+/// One symbol of an array whose disk has failed: one that survives from the stripe, a lost one from the spare strip.
+///
+/// Refused: the code sheet (1 to 6), 7, 31, 32, 35, 38.
+pub fn look_up<'a>(
+    sheet: &[u8],
+    disk: u64,
+    symbol_length: u64,
+    stripe: &'a [u8],
+    spare: &'a [u8],
+    symbol: u64,
+) -> Result<&'a [u8], Refusal> {
+    let part = ffi::look_up(sheet, disk, symbol_length, stripe, spare, symbol);
+    if part.length == 0 {
+        let verdict = ffi::look_up_verdict(sheet, disk, symbol_length, stripe, spare, symbol);
+        unless_refused(verdict.number, verdict.place, ())?;
+    }
+    Ok(cut(if part.slice == 1 { spare } else { stripe }, part))
+}
+
+/// The part of a slice; the proved library never answers one that runs past the end.
+fn cut(slice: &[u8], part: ffi::Part) -> &[u8] {
+    let start = part.start as usize;
+    slice.get(start..start + part.length as usize).unwrap_or(&[])
+}
+
+fn unless_refused<T>(number: u64, place: u64, answer: T) -> Result<T, Refusal> {
+    match Refusal::given(number, place) {
+        None => Ok(answer),
+        Some(refusal) => Err(refusal),
+    }
+}

@@ -1,0 +1,332 @@
+//! Document 01 once more, in plain Rust and by other means than the proved library: rows are lists of truth values, a lost place is a
+//! value that may be missing, encoding scatters each data symbol, and whether a disk can be rebuilt is a question of ranks.
+#![allow(dead_code)]
+use std::collections::HashSet;
+
+pub mod random;
+
+/// A refusal's number and place.
+pub type No = (u64, u64);
+
+/// One symbol's row: which data symbols it is the XOR of.
+pub type Row = Vec<bool>;
+
+#[derive(Clone, Debug)]
+pub struct Code {
+    pub disks: usize,
+    pub height: usize,
+    pub data: usize,
+    pub rows: Vec<Row>,
+}
+
+impl Code {
+    pub fn symbols(&self) -> usize {
+        self.rows.len()
+    }
+
+    /// The symbols of a disk.
+    pub fn strip(&self, disk: usize) -> std::ops::Range<usize> {
+        disk * self.height..(disk + 1) * self.height
+    }
+
+    /// The code's sheet.
+    pub fn sheet(&self) -> Vec<u8> {
+        let mut sheet = vec![4, 1, self.disks as u8, self.height as u8, self.data as u8, self.symbols() as u8];
+        for row in &self.rows {
+            let mut bytes = [0u8; 8];
+            for (bit, _) in row.iter().enumerate().filter(|(_, &set)| set) {
+                bytes[bit / 8] |= 1 << (bit % 8);
+            }
+            sheet.extend(bytes);
+        }
+        sheet
+    }
+}
+
+/// Under 6 bytes (1), first count (3), 4, 5, second count (3), 1, 2, 6.
+pub fn read_code(sheet: &[u8]) -> Result<Code, No> {
+    let [count, edition, disks, height, data, symbols, rest @ ..] = sheet else { return Err((1, 0)) };
+    let (n, r, k) = (*disks as usize, *height as usize, *data as usize);
+    let within = (2..=64).contains(&n) && (1..=32).contains(&r) && (1..=64).contains(&k) && n * r <= 64;
+    match () {
+        _ if *count != 4 => Err((3, 0)),
+        _ if *edition != 1 => Err((4, 0)),
+        _ if !within => Err((5, 0)),
+        _ if *symbols as usize != n * r => Err((3, 0)),
+        _ if rest.len() < 8 * n * r => Err((1, 0)),
+        _ if rest.len() > 8 * n * r => Err((2, 0)),
+        _ => {
+            let bits: Vec<Row> =
+                rest.chunks(8).map(|row| (0..64).map(|bit| row[bit / 8] & 1 << (bit % 8) != 0).collect()).collect();
+            for (row, bits) in bits.iter().enumerate() {
+                if let Some(stray) = bits[k..].iter().position(|&set| set) {
+                    return Err((6, (row * 64 + k + stray) as u64));
+                }
+            }
+            let rows = bits.into_iter().map(|row| row[..k].to_vec()).collect();
+            Ok(Code { disks: n, height: r, data: k, rows })
+        }
+    }
+}
+
+/// Families, as sets of places: data disk c, row j is the place (c, j).
+pub fn family(name: &str, a: u64, b: u64) -> Result<Vec<u8>, No> {
+    let (data_disks, height, parities) = match name {
+        "single parity" => {
+            // Checked in wide numbers: a and b may be anything.
+            let (k, r) = (a as u128, b as u128);
+            if k < 1 || r < 1 || k + 1 > 64 || r > 32 || (k + 1) * r > 64 {
+                return Err((36, 0));
+            }
+            (a as usize, b as usize, 1)
+        }
+        "liberation" if matches!(a, 3 | 5 | 7) && (2..=a).contains(&b) => (b as usize, a as usize, 2),
+        "row-diagonal" if matches!(a, 3 | 5 | 7) => (a as usize - 1, a as usize - 1, 2),
+        _ => return Err((36, 0)),
+    };
+    let mut places: Vec<HashSet<(usize, usize)>> = Vec::new();
+    for c in 0..data_disks {
+        places.extend((0..height).map(|j| HashSet::from([(c, j)])));
+    }
+    places.extend((0..height).map(|i| (0..data_disks).map(|c| (c, i)).collect()));
+    if parities == 2 {
+        for i in 0..height {
+            let mut q = HashSet::new();
+            for c in 0..data_disks {
+                if name == "liberation" {
+                    let w = height;
+                    q.insert((c, (i + c) % w));
+                    if c > 0 && (c * (w - 1) / 2) % w == i {
+                        q.insert((c, (i + c - 1) % w));
+                    }
+                } else {
+                    let p = height + 1;
+                    q.extend((0..height).filter(|j| (j + c) % p == i % p).map(|j| (c, j)));
+                }
+            }
+            places.push(q);
+        }
+    }
+    let data = data_disks * height;
+    let rows: Vec<Row> =
+        places.iter().map(|set| (0..data).map(|t| set.contains(&(t / height, t % height))).collect()).collect();
+    Ok(Code { disks: data_disks + parities, height, data, rows }.sheet())
+}
+
+fn symbol_length(size: u64) -> Result<usize, No> {
+    if (1..=65536).contains(&size) {
+        Ok(size as usize)
+    } else {
+        Err((31, 0))
+    }
+}
+
+/// Each data symbol scattered over the symbols that take it.
+pub fn scatter(code: &Code, size: usize, data: &[u8]) -> Vec<u8> {
+    let mut stripe = vec![0; code.symbols() * size];
+    for (t, symbol) in data.chunks(size).enumerate() {
+        for s in (0..code.symbols()).filter(|&s| code.rows[s][t]) {
+            for (to, from) in stripe[s * size..].iter_mut().zip(symbol) {
+                *to ^= from;
+            }
+        }
+    }
+    stripe
+}
+
+/// Code sheet, 31, 33, 32; then the whole stripe.
+pub fn encode(sheet: &[u8], size: u64, data: &[u8], stripe_length: usize) -> Result<Vec<u8>, No> {
+    let code = read_code(sheet)?;
+    let size = symbol_length(size)?;
+    if data.len() != code.data * size {
+        return Err((33, 0));
+    }
+    if stripe_length != code.symbols() * size {
+        return Err((32, 0));
+    }
+    Ok(scatter(&code, size, data))
+}
+
+/// A plan, judged. Lost places are missing values until a step fills them.
+pub fn check(sheet: &[u8], disk: u64, plan: &[u8]) -> Result<u64, No> {
+    let code = read_code(sheet)?;
+    if disk >= code.disks as u64 {
+        return Err((7, 0));
+    }
+    let [count, edition, n, r, k, failed, reads, low, high, rest @ ..] = plan else { return Err((11, 0)) };
+    let steps = u16::from_le_bytes([*low, *high]) as usize;
+    if *count != 6 {
+        return Err((13, 0));
+    }
+    if *edition != 1 {
+        return Err((14, 0));
+    }
+    if (*n as usize, *r as usize, *k as usize) != (code.disks, code.height, code.data) {
+        return Err((15, 0));
+    }
+    if *failed as u64 != disk {
+        return Err((16, 0));
+    }
+    if steps > 1024 {
+        return Err((13, 0));
+    }
+    match rest.len().cmp(&(3 * steps)) {
+        std::cmp::Ordering::Less => return Err((11, 0)),
+        std::cmp::Ordering::Greater => return Err((12, 0)),
+        std::cmp::Ordering::Equal => {}
+    }
+    let lost = code.strip(disk as usize);
+    let mut held: Vec<Option<Row>> =
+        code.rows.iter().enumerate().map(|(s, row)| if lost.contains(&s) { None } else { Some(row.clone()) }).collect();
+    let mut read = HashSet::new();
+    for (number, step) in rest.chunks(3).enumerate() {
+        let place = number as u64;
+        let (target, source) = (step[1] as usize, step[2] as usize);
+        if step[0] > 2 || target >= code.symbols() || source >= code.symbols() || (step[0] == 0 && source != 0) {
+            return Err((17, place));
+        }
+        if !lost.contains(&target) {
+            return Err((18, place));
+        }
+        let result = match step[0] {
+            0 => Some(vec![false; code.data]),
+            1 => held[source].clone(),
+            _ => match (&held[target], &held[source]) {
+                (Some(a), Some(b)) => Some(a.iter().zip(b).map(|(x, y)| x != y).collect()),
+                _ => None,
+            },
+        };
+        if result.is_none() {
+            return Err((19, place));
+        }
+        if step[0] != 0 && !lost.contains(&source) {
+            read.insert(source);
+        }
+        held[target] = result;
+    }
+    for s in lost.clone() {
+        if held[s].is_none() {
+            return Err((20, (s - lost.start) as u64));
+        }
+    }
+    for s in lost.clone() {
+        if held[s].as_ref() != Some(&code.rows[s]) {
+            return Err((21, (s - lost.start) as u64));
+        }
+    }
+    if *reads as usize != read.len() {
+        return Err((22, read.len() as u64));
+    }
+    Ok(read.len() as u64)
+}
+
+/// The check, 31, 32; then the steps on the stripe's symbols, one vector each.
+pub fn rebuild(sheet: &[u8], disk: u64, plan: &[u8], size: u64, stripe: &[u8]) -> Result<Vec<u8>, No> {
+    check(sheet, disk, plan)?;
+    let code = read_code(sheet)?;
+    let size = symbol_length(size)?;
+    if stripe.len() != code.symbols() * size {
+        return Err((32, 0));
+    }
+    let mut symbols: Vec<Vec<u8>> = stripe.chunks(size).map(<[u8]>::to_vec).collect();
+    for step in plan[9..].chunks(3) {
+        let source = symbols[step[2] as usize].clone();
+        let target = &mut symbols[step[1] as usize];
+        *target = match step[0] {
+            0 => vec![0; size],
+            1 => source,
+            _ => target.iter().zip(&source).map(|(a, b)| a ^ b).collect(),
+        };
+    }
+    Ok(symbols.concat())
+}
+
+/// The rank of rows, by echelon form.
+pub fn rank(rows: &[Row]) -> usize {
+    let mut rows: Vec<Row> = rows.to_vec();
+    let width = rows.first().map_or(0, Vec::len);
+    let mut done = 0;
+    for column in 0..width {
+        let Some(found) = (done..rows.len()).find(|&i| rows[i][column]) else { continue };
+        rows.swap(done, found);
+        let pivot = rows[done].clone();
+        for (i, row) in rows.iter_mut().enumerate() {
+            if i != done && row[column] {
+                for (a, b) in row.iter_mut().zip(&pivot) {
+                    *a ^= b;
+                }
+            }
+        }
+        done += 1;
+    }
+    done
+}
+
+/// Whether a disk can be rebuilt: its rows add nothing to the rank of the others.
+pub fn can_be_rebuilt(code: &Code, disk: usize) -> bool {
+    let lost = code.strip(disk);
+    let others: Vec<Row> =
+        code.rows.iter().enumerate().filter(|(s, _)| !lost.contains(s)).map(|(_, row)| row.clone()).collect();
+    rank(&others) == rank(&code.rows)
+}
+
+/// What planning must refuse.
+pub fn plan_refusal(sheet: &[u8], disk: u64, buffer_length: usize) -> Result<Code, No> {
+    let code = read_code(sheet)?;
+    if disk >= code.disks as u64 {
+        return Err((7, 0));
+    }
+    if buffer_length < 3081 {
+        return Err((34, 0));
+    }
+    Ok(code)
+}
+
+/// Whether a pattern is good: K bits, its stripe zero on every survivor and not zero on the lost disk.
+pub fn good_pattern(code: &Code, disk: usize, pattern: u64, size: usize) -> bool {
+    if code.data < 64 && pattern >> code.data != 0 {
+        return false;
+    }
+    let data: Vec<u8> = (0..code.data).flat_map(|t| vec![(pattern >> t & 1) as u8; size]).collect();
+    let stripe = scatter(code, size, &data);
+    let strip = code.strip(disk).start * size..code.strip(disk).end * size;
+    stripe.iter().enumerate().all(|(i, &byte)| strip.contains(&i) || byte == 0)
+        && stripe[strip].iter().any(|&byte| byte != 0)
+}
+
+/// One strip: code sheet, 7, 31, 32. The answer is its first byte and its end.
+pub fn strip(sheet: &[u8], disk: u64, size: u64, stripe_length: usize) -> Result<(usize, usize), No> {
+    let code = read_code(sheet)?;
+    if disk >= code.disks as u64 {
+        return Err((7, 0));
+    }
+    let size = symbol_length(size)?;
+    if stripe_length != code.symbols() * size {
+        return Err((32, 0));
+    }
+    let strip = code.strip(disk as usize);
+    Ok((strip.start * size, strip.end * size))
+}
+
+/// Look up: the same, 35, 38. The answer is whether it is in the spare strip, its first byte and its end.
+pub fn look_up(
+    sheet: &[u8],
+    disk: u64,
+    size: u64,
+    stripe: usize,
+    spare: usize,
+    symbol: u64,
+) -> Result<(bool, usize, usize), No> {
+    strip(sheet, disk, size, stripe)?;
+    let code = read_code(sheet)?;
+    let size = size as usize;
+    if spare != code.height * size {
+        return Err((35, 0));
+    }
+    if symbol >= code.symbols() as u64 {
+        return Err((38, 0));
+    }
+    let (symbol, lost) = (symbol as usize, code.strip(disk as usize));
+    let from = if lost.contains(&symbol) { symbol - lost.start } else { symbol };
+    Ok((lost.contains(&symbol), from * size, (from + 1) * size))
+}
