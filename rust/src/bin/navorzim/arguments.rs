@@ -1,0 +1,166 @@
+//! The command line: named options, and the words that stand in order.
+use crate::failure::Failure;
+use std::collections::VecDeque;
+use std::ffi::{OsStr, OsString};
+use std::os::unix::ffi::OsStrExt;
+use std::path::PathBuf;
+
+/// What follows a command's name, sorted. A question removes what it answers, so that `finish` finds what nobody asked for.
+#[derive(Debug)]
+pub struct Arguments {
+    command: &'static str,
+    words: VecDeque<OsString>,
+    options: Vec<(&'static str, OsString)>,
+    help: bool,
+}
+
+impl Arguments {
+    /// Sorts the words of a command that knows `known` options, each with a value.
+    pub fn read(
+        command: &'static str,
+        known: &'static [&'static str],
+        given: impl IntoIterator<Item = OsString>,
+    ) -> Result<Arguments, Failure> {
+        let mut sorted = Arguments { command, words: VecDeque::new(), options: Vec::new(), help: false };
+        let mut given = given.into_iter();
+        while let Some(word) = given.next() {
+            match word.as_bytes() {
+                b"--" => sorted.words.extend(given.by_ref()),
+                b"-h" | b"--help" => sorted.help = true,
+                b"-" => sorted.words.push_back(word),
+                [b'-', ..] => sorted.read_option(&word, known, &mut given)?,
+                _ => sorted.words.push_back(word),
+            }
+        }
+        Ok(sorted)
+    }
+
+    /// `--name VALUE`, `--name=VALUE` or `-n VALUE`.
+    fn read_option(
+        &mut self,
+        word: &OsStr,
+        known: &'static [&'static str],
+        given: &mut impl Iterator<Item = OsString>,
+    ) -> Result<(), Failure> {
+        let bytes = word.as_bytes();
+        let equals = bytes.iter().position(|&byte| byte == b'=');
+        let (name, joined) = match equals {
+            Some(at) if bytes.starts_with(b"--") => {
+                (&bytes[..at], Some(OsStr::from_bytes(&bytes[at + 1..]).to_os_string()))
+            }
+            _ => (bytes, None),
+        };
+        let name = if name == b"--output" { b"-o" } else { name };
+        let Some(&name) = known.iter().find(|option| option.as_bytes() == name) else {
+            let what = format!("{} has no option {}", self.command, shown(word));
+            return Err(self.misuse(what));
+        };
+        if self.options.iter().any(|(taken, _)| *taken == name) {
+            return Err(self.misuse(format!("{name} is given twice")));
+        }
+        let Some(value) = joined.or_else(|| given.next()) else {
+            return Err(self.misuse(format!("{name} needs a value")));
+        };
+        self.options.push((name, value));
+        Ok(())
+    }
+
+    /// Whether help was asked for.
+    pub fn asks_for_help(&self) -> bool {
+        self.help
+    }
+
+    /// The next word.
+    pub fn word(&mut self, name: &str) -> Result<OsString, Failure> {
+        self.words.pop_front().ok_or_else(|| self.misuse(format!("{name} is missing")))
+    }
+
+    /// The next word as a file.
+    pub fn file(&mut self, name: &str) -> Result<PathBuf, Failure> {
+        let word = self.word(name)?;
+        self.as_file(name, word)
+    }
+
+    /// The next word as a number.
+    pub fn number(&mut self, name: &str) -> Result<u64, Failure> {
+        let word = self.word(name)?;
+        self.as_number(name, &word)
+    }
+
+    /// The value of an option as a file, if it is given.
+    pub fn file_option(&mut self, name: &str) -> Result<Option<PathBuf>, Failure> {
+        let value = self.option(name);
+        value.map(|word| self.as_file(name, word)).transpose()
+    }
+
+    /// The value of an option as a number, if it is given.
+    pub fn number_option(&mut self, name: &str) -> Result<Option<u64>, Failure> {
+        let value = self.option(name);
+        value.map(|word| self.as_number(name, &word)).transpose()
+    }
+
+    /// Where the output goes; asked for by name, so that no file is written that nobody named.
+    pub fn output(&mut self) -> Result<PathBuf, Failure> {
+        let file = self.file_option("-o")?;
+        file.ok_or_else(|| self.misuse("-o FILE is missing".to_string()))
+    }
+
+    /// The symbol length, L.
+    pub fn symbol_length(&mut self) -> Result<u64, Failure> {
+        let length = self.number_option("--symbol")?;
+        length.ok_or_else(|| self.misuse("--symbol L is missing".to_string()))
+    }
+
+    /// Refuses words that nobody asked for.
+    pub fn finish(&mut self) -> Result<(), Failure> {
+        match self.words.pop_front() {
+            None => Ok(()),
+            Some(word) => Err(self.misuse(format!("'{}' is one word too many", shown(&word)))),
+        }
+    }
+
+    /// A misuse of this command.
+    pub fn misuse(&self, what: String) -> Failure {
+        Failure::Misuse { what, command: self.command }
+    }
+
+    fn option(&mut self, name: &str) -> Option<OsString> {
+        let at = self.options.iter().position(|(taken, _)| *taken == name)?;
+        Some(self.options.swap_remove(at).1)
+    }
+
+    fn as_file(&self, name: &str, word: OsString) -> Result<PathBuf, Failure> {
+        if word == "-" {
+            let what = format!("{name} can't be -: standard input and output aren't supported, name a file");
+            return Err(self.misuse(what));
+        }
+        if word.is_empty() {
+            return Err(self.misuse(format!("{name} is an empty name")));
+        }
+        Ok(PathBuf::from(word))
+    }
+
+    fn as_number(&self, name: &str, word: &OsStr) -> Result<u64, Failure> {
+        let text = word.to_str().unwrap_or("");
+        // `parse` would take a plus sign.
+        let digits = !text.is_empty() && text.bytes().all(|byte| byte.is_ascii_digit());
+        match text.parse() {
+            Ok(number) if digits => Ok(number),
+            _ => Err(self.misuse(format!(
+                "{name} must be a decimal number from 0 to {}, not '{}'",
+                u64::MAX,
+                shown(word)
+            ))),
+        }
+    }
+}
+
+/// A word for a message: one line, and not too long of it.
+pub fn shown(word: &OsStr) -> String {
+    let text = word.to_string_lossy();
+    let mut short: String = text.escape_debug().take(60).collect();
+    if text.escape_debug().count() > 60 {
+        short.push('…');
+    }
+    short
+}

@@ -1,0 +1,248 @@
+//! The commands. Each reads its files, asks the library, and answers the text for standard output.
+use crate::arguments::{shown, Arguments};
+use crate::failure::{Failure, Refused};
+use crate::files;
+use crate::picture::{pattern_notes, Picture, Story};
+use crate::sheets::{counted, Code, Plan};
+use crate::stream::{self, Pieces};
+use crate::text::Style;
+use crate::{demo, help, svg, text};
+use navorzim::{Family, Planning, Refusal};
+use std::path::Path;
+
+/// A command: its name, its options, its help and what it does.
+pub struct Command {
+    pub name: &'static str,
+    pub options: &'static [&'static str],
+    pub help: &'static str,
+    pub run: fn(&mut Arguments) -> Result<String, Failure>,
+}
+
+/// All commands, in the order in which help lists them.
+pub const COMMANDS: &[Command] = &[
+    Command { name: "demo", options: &["--keep"], help: help::DEMO, run: demo::run },
+    Command { name: "family", options: &["-o"], help: help::FAMILY, run: family },
+    Command { name: "encode", options: &["-o", "--symbol"], help: help::ENCODE, run: encode },
+    Command { name: "plan", options: &["-o"], help: help::PLAN, run: plan },
+    Command { name: "check", options: &[], help: help::CHECK, run: check },
+    Command { name: "rebuild", options: &["-o", "--symbol"], help: help::REBUILD, run: rebuild },
+    Command { name: "strip", options: &["-o", "--symbol"], help: help::STRIP, run: strip },
+    Command { name: "show", options: &["--disk", "--plan", "--svg"], help: help::SHOW, run: show },
+];
+
+/// The command with a name.
+pub fn find(name: &str) -> Option<&'static Command> {
+    COMMANDS.iter().find(|command| command.name == name)
+}
+
+/// Runs a command with what follows its name.
+pub fn run(command: &'static Command, given: impl IntoIterator<Item = std::ffi::OsString>) -> Result<String, Failure> {
+    let mut arguments = Arguments::read(command.name, command.options, given)?;
+    if arguments.asks_for_help() {
+        return Ok(command.help.to_string());
+    }
+    (command.run)(&mut arguments)
+}
+
+fn family(arguments: &mut Arguments) -> Result<String, Failure> {
+    let name = arguments.word("NAME")?;
+    let (family, given) = match name.to_str() {
+        Some("single-parity") => {
+            let (data_disks, rows) = (arguments.number("K")?, arguments.number("R")?);
+            let family = Family::SingleParity { data_disks, rows };
+            (family, format!("k {data_disks}, r {rows}"))
+        }
+        Some("liberation") => {
+            let (w, data_disks) = (arguments.number("W")?, arguments.number("K")?);
+            let family = Family::Liberation { w, data_disks };
+            (family, format!("w {w}, k {data_disks}"))
+        }
+        Some("row-diagonal") => {
+            let p = arguments.number("P")?;
+            (Family::RowDiagonal { p }, format!("p {p}"))
+        }
+        _ => {
+            let what = format!("there is no family '{}', but single-parity, liberation and row-diagonal", shown(&name));
+            return Err(arguments.misuse(what));
+        }
+    };
+    let output = arguments.output()?;
+    arguments.finish()?;
+    let unlisted = |refusal| {
+        Failure::Refused(Refused { refusal, detail: format!("{} {given}", name.to_string_lossy()), file: None })
+    };
+    let sheet = family.sheet().map_err(unlisted)?;
+    files::replace(&output, &[], &sheet)?;
+    let length = sheet.len();
+    let code = Code::read(&output, sheet).map_err(unlisted)?;
+    Ok(format!("wrote {}: {}, {length} bytes\n", output.display(), code.shape()))
+}
+
+fn encode(arguments: &mut Arguments) -> Result<String, Failure> {
+    let (code, data) = (arguments.file("CODE")?, arguments.file("DATA")?);
+    let (symbol, output) = (arguments.symbol_length()?, arguments.output()?);
+    arguments.finish()?;
+    let code = Code::open(&code)?;
+    let explain = |refusal| code.explain(refusal, 0, None, symbol);
+    // With no data the library refuses all that goes before the data's length, in its own order, and then that length.
+    all_but(navorzim::encode(&code.sheet, symbol, &[], &mut []), Refusal::DataLength).map_err(explain)?;
+    let mut stripe = vec![0; Pieces::stripes(&code, symbol).length()];
+    let stripes = stream::each(&data, &Pieces::data(&code, symbol), &output, &[&code.file, &data], |piece, output| {
+        navorzim::encode(&code.sheet, symbol, piece, &mut stripe).map_err(explain)?;
+        output.write(&stripe)
+    })?;
+    Ok(format!(
+        "wrote {}: {} of {} symbols of {symbol} bytes\n",
+        output.display(),
+        counted(stripes, "stripe"),
+        code.symbols()
+    ))
+}
+
+fn plan(arguments: &mut Arguments) -> Result<String, Failure> {
+    let (code, disk) = (arguments.file("CODE")?, arguments.number("DISK")?);
+    let output = arguments.output()?;
+    arguments.finish()?;
+    let code = Code::open(&code)?;
+    let (plan, reads) = match planned(&code, disk)? {
+        Planning::Plan { plan, reads } => (plan, reads),
+        Planning::Pattern(bits) => {
+            let notes = pattern_notes(&code, disk as usize, bits);
+            return Err(Failure::NoPlan {
+                text: notes.iter().map(|note| format!("{note}\n")).collect(),
+                disk,
+                code: code.file,
+            });
+        }
+    };
+    files::replace(&output, &[&code.file], &plan)?;
+    let length = plan.len();
+    let steps = Plan { file: output, sheet: plan };
+    Ok(format!(
+        "wrote {}: {length} bytes, {}, reads {} symbols\n",
+        steps.file.display(),
+        counted(steps.steps().len(), "step"),
+        reads
+    ))
+}
+
+fn check(arguments: &mut Arguments) -> Result<String, Failure> {
+    let (code, disk) = (arguments.file("CODE")?, arguments.number("DISK")?);
+    let plan = arguments.file("PLAN")?;
+    arguments.finish()?;
+    let code = Code::open(&code)?;
+    let reads = checked(&code, disk, &Plan::open(&plan)?)?;
+    Ok(format!("accepted, reads {reads} symbols\n"))
+}
+
+fn rebuild(arguments: &mut Arguments) -> Result<String, Failure> {
+    let (code, disk) = (arguments.file("CODE")?, arguments.number("DISK")?);
+    let (plan, stripes) = (arguments.file("PLAN")?, arguments.file("STRIPES")?);
+    let symbol = arguments.symbol_length()?;
+    let output = arguments.file_option("-o")?;
+    arguments.finish()?;
+    let output = output.unwrap_or_else(|| stripes.clone());
+    let (code, plan) = (Code::open(&code)?, Plan::open(&plan)?);
+    let explain = |refusal| code.explain(refusal, disk, Some(&plan), symbol);
+    // As in `encode`: all that goes before the stripe's length.
+    all_but(navorzim::rebuild(&code.sheet, disk, &plan.sheet, symbol, &mut []), Refusal::StripeLength)
+        .map_err(explain)?;
+    let count = stream::each(
+        &stripes,
+        &Pieces::stripes(&code, symbol),
+        &output,
+        &[&code.file, &plan.file],
+        |stripe, output| {
+            // The library checks the plan again, for every stripe: none is believed because it was once believed.
+            navorzim::rebuild(&code.sheet, disk, &plan.sheet, symbol, stripe).map_err(explain)?;
+            output.write(stripe)
+        },
+    )?;
+    Ok(format!("rebuilt disk {disk} in {}: {}\n", counted(count, "stripe"), output.display()))
+}
+
+fn strip(arguments: &mut Arguments) -> Result<String, Failure> {
+    let (code, disk) = (arguments.file("CODE")?, arguments.number("DISK")?);
+    let stripes = arguments.file("STRIPES")?;
+    let (symbol, output) = (arguments.symbol_length()?, arguments.output()?);
+    arguments.finish()?;
+    let code = Code::open(&code)?;
+    let explain = |refusal| code.explain(refusal, disk, None, symbol);
+    all_but(navorzim::strip(&code.sheet, disk, symbol, &[]).map(|_| ()), Refusal::StripeLength).map_err(explain)?;
+    let count =
+        stream::each(&stripes, &Pieces::stripes(&code, symbol), &output, &[&code.file, &stripes], |stripe, output| {
+            let strip = navorzim::strip(&code.sheet, disk, symbol, stripe).map_err(explain)?;
+            output.write(strip)
+        })?;
+    Ok(format!(
+        "wrote {}: {} of disk {disk}, {} of {symbol} bytes each\n",
+        output.display(),
+        counted(count, "strip"),
+        counted(code.rows, "symbol")
+    ))
+}
+
+fn show(arguments: &mut Arguments) -> Result<String, Failure> {
+    let code = arguments.file("CODE")?;
+    let disk = arguments.number_option("--disk")?;
+    let plan = arguments.file_option("--plan")?;
+    let drawing = arguments.file_option("--svg")?;
+    arguments.finish()?;
+    if plan.is_some() && disk.is_none() {
+        let what = "--plan needs --disk: which disk is lost isn't left to the plan";
+        return Err(arguments.misuse(what.to_string()));
+    }
+    let code = Code::open(&code)?;
+    let story = match (disk, &plan) {
+        (None, _) => Story::Code,
+        (Some(disk), None) => planned_story(&code, disk)?,
+        (Some(disk), Some(plan)) => checked_story(&code, disk, &Plan::open(plan)?)?,
+    };
+    let picture = Picture::new(&code, &story);
+    if let Some(drawing) = drawing {
+        let plan = plan.as_deref().unwrap_or(Path::new(""));
+        files::replace(&drawing, &[&code.file, plan], svg::draw(&picture).as_bytes())?;
+    }
+    let text = text::draw(&picture, Style::of_stdout());
+    match story {
+        Story::Pattern { disk, .. } => Err(Failure::NoPlan { text, disk: disk as u64, code: code.file }),
+        _ => Ok(text),
+    }
+}
+
+/// What the planner says about a disk.
+fn planned(code: &Code, disk: u64) -> Result<Planning, Failure> {
+    let planning = navorzim::make_plan(&code.sheet, disk);
+    planning.map_err(|refusal| code.explain(refusal, disk, None, 0))
+}
+
+/// How many symbols a plan reads, if it is accepted.
+fn checked(code: &Code, disk: u64, plan: &Plan) -> Result<u64, Failure> {
+    let reads = navorzim::check(&code.sheet, disk, &plan.sheet);
+    reads.map_err(|refusal| code.explain(refusal, disk, Some(plan), 0))
+}
+
+/// The planner's answer as a story; its plan is checked like any other.
+pub fn planned_story(code: &Code, disk: u64) -> Result<Story, Failure> {
+    match planned(code, disk)? {
+        Planning::Pattern(bits) => Ok(Story::Pattern { disk: disk as usize, bits }),
+        Planning::Plan { plan, .. } => {
+            let plan = Plan { file: code.file.clone(), sheet: plan };
+            checked_story(code, disk, &plan)
+        }
+    }
+}
+
+/// An accepted plan as a story.
+pub fn checked_story(code: &Code, disk: u64, plan: &Plan) -> Result<Story, Failure> {
+    let reads = checked(code, disk, plan)?;
+    Ok(Story::Plan { disk: disk as usize, reads, steps: plan.steps() })
+}
+
+/// Any refusal but the one that a call without bytes must end in.
+fn all_but(answer: Result<(), Refusal>, expected: Refusal) -> Result<(), Refusal> {
+    match answer {
+        Err(refusal) if refusal != expected => Err(refusal),
+        _ => Ok(()),
+    }
+}

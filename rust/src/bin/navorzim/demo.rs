@@ -1,0 +1,277 @@
+//! The demonstration: a disk lost and brought back, the day of the incident, and a disk that can't be brought back. It runs the
+//! tool's own commands over files, tests what comes of each, and fails if anything is other than it must be.
+use crate::arguments::Arguments;
+use crate::commands;
+use crate::failure::Failure;
+use crate::files::{replace, unique_name};
+use std::ffi::OsString;
+use std::fs;
+use std::path::{Path, PathBuf};
+
+const SYMBOL: usize = 64;
+const STRIPES: usize = 2;
+/// Liberation, w 5, k 5.
+const ROWS: usize = 5;
+const SYMBOLS: usize = 35;
+const DATA: usize = 25;
+
+pub fn run(arguments: &mut Arguments) -> Result<String, Failure> {
+    let keep = arguments.file_option("--keep")?;
+    arguments.finish()?;
+    let mut demo = Demo { folder: Folder::make(keep)?, text: String::new() };
+    match demo.tell() {
+        Ok(()) => Ok(demo.text),
+        Err(failure) => {
+            Err(Failure::Unexpected { text: demo.text, what: format!("the demonstration failed: {failure}") })
+        }
+    }
+}
+
+/// The files' folder: kept if it was named, else removed at the end, however that comes about.
+struct Folder {
+    path: PathBuf,
+    kept: bool,
+}
+
+impl Folder {
+    fn make(keep: Option<PathBuf>) -> Result<Folder, Failure> {
+        let kept = keep.is_some();
+        let path = keep.unwrap_or_else(|| std::env::temp_dir().join(unique_name()));
+        let trouble = |why: &str| Failure::File(format!("can't use {}: {why}", path.display()));
+        if kept && path.is_dir() {
+            let mut files = fs::read_dir(&path).map_err(|error| trouble(&error.to_string()))?;
+            if files.next().is_some() {
+                return Err(trouble("it isn't empty"));
+            }
+        } else {
+            fs::create_dir(&path).map_err(|error| trouble(&error.to_string()))?;
+        }
+        Ok(Folder { path, kept })
+    }
+}
+
+impl Drop for Folder {
+    fn drop(&mut self) {
+        if !self.kept {
+            let _ = fs::remove_dir_all(&self.path);
+        }
+    }
+}
+
+struct Demo {
+    folder: Folder,
+    text: String,
+}
+
+impl Demo {
+    fn tell(&mut self) -> Result<(), Failure> {
+        self.rebuild_a_disk()?;
+        self.run_an_old_plan()?;
+        self.meet_a_pattern()?;
+        self.say("");
+        self.say("Everything came out right.");
+        if self.folder.kept {
+            self.say(&format!("The files are in {}.", self.folder.path.display()));
+        }
+        Ok(())
+    }
+
+    fn rebuild_a_disk(&mut self) -> Result<(), Failure> {
+        self.say("A disk is lost and brought back");
+        self.command("family liberation 5 5 -o code.sheet")?;
+        self.write("register.txt", register().as_bytes())?;
+        self.note("register.txt: 50 lines of 64 bytes, a line a symbol, 25 a stripe");
+        self.command("encode code.sheet --symbol 64 register.txt -o stripes.bin")?;
+        let whole = self.read("stripes.bin")?;
+        self.command("strip code.sheet 0 --symbol 64 stripes.bin -o disk0.bin")?;
+        let strip = self.read("disk0.bin")?;
+        self.note(&format!("disk 0 begins  {}", first_line(&strip)));
+
+        let ruined = ruin(&whole);
+        self.write("stripes.bin", &ruined)?;
+        self.note(&format!("disk 0 dies:   {}", first_line(&ruined)));
+
+        self.command("plan code.sheet 0 -o plan.sheet")?;
+        self.command("check code.sheet 0 plan.sheet")?;
+        self.command("rebuild code.sheet 0 plan.sheet --symbol 64 stripes.bin")?;
+        let rebuilt = self.read("stripes.bin")?;
+        self.note(&format!("disk 0 begins  {}", first_line(&rebuilt)));
+        self.must(rebuilt == whole, "the stripes are not as they were")?;
+        self.must(ruined != whole, "nothing was ruined")?;
+        let all = whole.len();
+        self.note(&format!("compared: all {all} bytes are as they were"));
+        self.say("");
+        self.draw("show code.sheet --disk 0 --plan plan.sheet --svg plan.svg")?;
+        Ok(())
+    }
+
+    fn run_an_old_plan(&mut self) -> Result<(), Failure> {
+        self.say("");
+        self.say("The day of the incident: the plan is cached, the array is laid out anew");
+        let sheet = self.read("code.sheet")?;
+        self.write("anew.sheet", &parities_swapped(&sheet))?;
+        self.note("anew.sheet: the same shape, the two parity disks have changed places");
+        self.command("encode anew.sheet --symbol 64 register.txt -o stripes.bin")?;
+        let whole = self.read("stripes.bin")?;
+        let ruined = ruin(&whole);
+        self.write("stripes.bin", &ruined)?;
+        self.note(&format!("disk 0 dies:   {}", first_line(&ruined)));
+
+        self.refused("check anew.sheet 0 plan.sheet", 21)?;
+        let rebuild = "rebuild anew.sheet 0 plan.sheet --symbol 64 stripes.bin";
+        self.refused(rebuild, 21)?;
+        let after = self.read("stripes.bin")?;
+        self.must(after == ruined, "a refused rebuild changed the stripes")?;
+        self.note("compared: not a byte of stripes.bin has changed");
+
+        self.command("family liberation 5 4 -o smaller.sheet")?;
+        self.refused("check smaller.sheet 0 plan.sheet", 15)?;
+
+        self.note("planned anew, for the layout in use:");
+        self.command("plan anew.sheet 0 -o fresh.sheet")?;
+        self.command("rebuild anew.sheet 0 fresh.sheet --symbol 64 stripes.bin")?;
+        let rebuilt = self.read("stripes.bin")?;
+        self.must(rebuilt == whole, "the stripes are not as they were")?;
+        self.note(&format!("disk 0 begins  {}", first_line(&rebuilt)));
+        Ok(())
+    }
+
+    fn meet_a_pattern(&mut self) -> Result<(), Failure> {
+        self.say("");
+        self.say("A disk that can't be rebuilt");
+        self.write("thin.sheet", &thin_sheet())?;
+        self.note("thin.sheet: single parity, but the parity's row 1 leaves disk 1 out");
+        self.say("");
+        let show = "show thin.sheet --disk 1 --svg pattern.svg";
+        self.say(&format!("$ navorzim {show}"));
+        match self.run(show) {
+            Err(Failure::NoPlan { text, .. }) => self.text.push_str(&text),
+            Err(failure) => return Err(failure),
+            Ok(_) => self.must(false, "a plan was found where none can be")?,
+        }
+        let missing = self.run("plan thin.sheet 1 -o none.sheet");
+        let no_plan = matches!(missing, Err(Failure::NoPlan { .. }));
+        let no_file = !self.folder.path.join("none.sheet").exists();
+        self.must(no_plan && no_file, "a plan was written where none can be")
+    }
+
+    fn say(&mut self, line: &str) {
+        self.text.push_str(line);
+        self.text.push('\n');
+    }
+
+    fn note(&mut self, line: &str) {
+        self.say(&format!("  {line}"));
+    }
+
+    /// Runs a command that must succeed, and says so in its own words.
+    fn command(&mut self, line: &str) -> Result<(), Failure> {
+        self.note(&format!("$ navorzim {line}"));
+        let answer = self.run(line)?;
+        let answer = self.shortened(&answer);
+        self.note(&format!("    {}", answer.trim_end()));
+        Ok(())
+    }
+
+    /// Runs a command that draws.
+    fn draw(&mut self, line: &str) -> Result<(), Failure> {
+        self.say(&format!("$ navorzim {line}"));
+        let drawing = self.run(line)?;
+        self.text.push_str(&drawing);
+        Ok(())
+    }
+
+    /// Runs a command that must be refused with a number.
+    fn refused(&mut self, line: &str, number: u64) -> Result<(), Failure> {
+        self.note(&format!("$ navorzim {line}"));
+        match self.run(line) {
+            Err(Failure::Refused(refused)) => {
+                let sentence = self.shortened(&refused.to_string());
+                self.note(&format!("    {sentence}"));
+                let as_expected = refused.refusal.number() == number;
+                self.must(as_expected, &format!("that should be refusal {number}"))
+            }
+            Err(failure) => Err(failure),
+            Ok(_) => self.must(false, "a plan for another layout was taken"),
+        }
+    }
+
+    /// Runs a line of the tool; a word with a dot in it is a file of the folder.
+    fn run(&self, line: &str) -> Result<String, Failure> {
+        let mut words = line.split(' ');
+        let command = words.next().and_then(commands::find);
+        let words: Vec<OsString> = words
+            .map(|word| match word.contains('.') {
+                true => self.folder.path.join(word).into_os_string(),
+                false => OsString::from(word),
+            })
+            .collect();
+        match command {
+            Some(command) => commands::run(command, words),
+            None => Err(Failure::File(format!("no such command: {line}"))),
+        }
+    }
+
+    fn must(&self, holds: bool, otherwise: &str) -> Result<(), Failure> {
+        match holds {
+            true => Ok(()),
+            false => Err(Failure::File(otherwise.to_string())),
+        }
+    }
+
+    /// Without the folder's name, which is long and says nothing.
+    fn shortened(&self, text: &str) -> String {
+        text.replace(&format!("{}/", self.folder.path.display()), "")
+    }
+
+    fn write(&self, name: &str, bytes: &[u8]) -> Result<(), Failure> {
+        replace(&self.folder.path.join(name), &[], bytes)
+    }
+
+    fn read(&self, name: &str) -> Result<Vec<u8>, Failure> {
+        let path: &Path = &self.folder.path.join(name);
+        let read = fs::read(path);
+        read.map_err(|error| Failure::File(format!("can't read {}: {error}", path.display())))
+    }
+}
+
+/// Lines as long as a symbol, so that each disk can be read.
+fn register() -> String {
+    (0..DATA * STRIPES)
+        .map(|line| {
+            let (minute, key) = (line, 1000 + 37 * line);
+            let entry = format!("12:{minute:02} key {key} revoked");
+            format!("{entry:<width$}\n", width = SYMBOL - 1)
+        })
+        .collect()
+}
+
+/// The stripes with disk 0's strip ruined in each.
+fn ruin(stripes: &[u8]) -> Vec<u8> {
+    let mut ruined = stripes.to_vec();
+    for stripe in ruined.chunks_mut(SYMBOLS * SYMBOL) {
+        stripe.iter_mut().take(ROWS * SYMBOL).for_each(|byte| *byte = b'#');
+    }
+    ruined
+}
+
+/// The first symbol as text, without the blanks at its end.
+fn first_line(stripes: &[u8]) -> String {
+    let symbol: Vec<u8> = stripes.iter().copied().take(SYMBOL / 2).collect();
+    String::from_utf8_lossy(&symbol).trim_end().to_string()
+}
+
+/// The same code with its last two disks, P and Q, in each other's place.
+fn parities_swapped(sheet: &[u8]) -> Vec<u8> {
+    let (head, parities) = sheet.split_at(sheet.len().saturating_sub(2 * ROWS * 8));
+    let (p, q) = parities.split_at(parities.len() / 2);
+    [head, q, p].concat()
+}
+
+/// Three data disks of two rows and a parity disk, whose row 1 leaves out d3, row 1 of disk 1.
+fn thin_sheet() -> Vec<u8> {
+    let sums: [u64; 8] = [1, 2, 4, 8, 16, 32, 1 + 4 + 16, 2 + 32];
+    let mut sheet = vec![4, 1, 4, 2, 6, 8];
+    sheet.extend(sums.iter().flat_map(|sum| sum.to_le_bytes()));
+    sheet
+}

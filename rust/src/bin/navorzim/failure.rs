@@ -1,0 +1,76 @@
+//! Why a command did not do what it was asked, how that is said, and the exit status it gets.
+use navorzim::Refusal;
+use std::fmt;
+use std::path::{Path, PathBuf};
+
+/// What ends a command early.
+#[derive(Debug)]
+pub enum Failure {
+    /// The library, or the length of a file of many stripes, said no.
+    Refused(Refused),
+    /// The planner answered a pattern: `text` is the answer, for standard output.
+    NoPlan { text: String, disk: u64, code: PathBuf },
+    /// The command line can't be understood; `command` is the one whose help is of use.
+    Misuse { what: String, command: &'static str },
+    /// A file can't be read, written or used as asked.
+    File(String),
+    /// The demonstration came out other than it must; `text` is what it said until then.
+    Unexpected { text: String, what: String },
+}
+
+/// A refusal with what the tool knows besides: the numbers at fault, and the file they came from.
+#[derive(Debug)]
+pub struct Refused {
+    pub refusal: Refusal,
+    pub detail: String,
+    pub file: Option<PathBuf>,
+}
+
+impl Failure {
+    /// A refusal that concerns a file.
+    pub fn refused(refusal: Refusal, detail: String, file: &Path) -> Failure {
+        let file = Some(file.to_path_buf());
+        Failure::Refused(Refused { refusal, detail, file })
+    }
+
+    /// 1 for a refusal and for a disk that can't be rebuilt, 2 for everything that never reached the library.
+    pub fn status(&self) -> u8 {
+        match self {
+            Failure::Refused(_) | Failure::NoPlan { .. } | Failure::Unexpected { .. } => 1,
+            Failure::Misuse { .. } | Failure::File(_) => 2,
+        }
+    }
+}
+
+impl fmt::Display for Refused {
+    fn fmt(&self, f: &mut fmt::Formatter<'_>) -> fmt::Result {
+        let (number, place) = (self.refusal.number(), self.refusal.place());
+        write!(f, "refused {number} at {place}: {}", self.refusal)?;
+        if !self.detail.is_empty() {
+            write!(f, ": {}", self.detail)?;
+        }
+        match &self.file {
+            Some(file) => write!(f, " ({})", file.display()),
+            None => Ok(()),
+        }
+    }
+}
+
+impl fmt::Display for Failure {
+    fn fmt(&self, f: &mut fmt::Formatter<'_>) -> fmt::Result {
+        match self {
+            Failure::Refused(refused) => write!(f, "{refused}"),
+            Failure::NoPlan { disk, code, .. } => {
+                let code = code.display();
+                write!(f, "disk {disk} can't be rebuilt by any plan ({code})")
+            }
+            Failure::Misuse { what, command: "" } => {
+                write!(f, "{what}\n`navorzim help` says how it is used")
+            }
+            Failure::Misuse { what, command } => {
+                write!(f, "{what}\n`navorzim {command} --help` says how it is used")
+            }
+            Failure::File(what) | Failure::Unexpected { what, .. } => write!(f, "{what}"),
+        }
+    }
+}

@@ -1,0 +1,132 @@
+//! What `help` and `--help` print.
+
+pub const ALL: &str = "\
+Plans, checks and rebuilds for small disk arrays coded with XOR.
+
+usage: navorzim COMMAND ..
+
+  demo      loses a disk of a small array and brings it back, in front of you
+  family    writes the code sheet of a known code
+  encode    makes stripes of data
+  plan      plans how to rebuild a disk, or shows why it can't be done
+  check     judges a plan for a code and a disk
+  rebuild   rebuilds a disk in a file of stripes, by a plan that is checked first
+  strip     takes a disk's strips out of a file of stripes
+  show      draws a code, a plan, or why there is none
+  help      help COMMAND, or COMMAND --help, tells more
+
+A code has n disks of r symbols, N = n × r, and K data symbols; a symbol is L bytes.
+A stripe is N × L bytes, symbol (disk × r + row) after symbol.
+
+Numbers are decimal. `--` ends the options. Standard input and output can't be named by -.
+A file that is written takes the old one's place when it is complete; until then, and
+after any refusal, the old one is as it was. A run that is killed may leave a file
+.navorzim-*.part beside it, which may be removed.
+
+Exit status: 0 done, 1 refused or a disk that can't be rebuilt, 2 misuse or a file that
+can't be used. A refusal is its number, its place and a sentence, on standard error.
+";
+
+pub const DEMO: &str = "\
+usage: navorzim demo [--keep DIR]
+
+Makes an array, encodes a register, loses a disk, plans, checks, rebuilds and compares; then
+asks about the same plan under another layout, and about a disk that can't be rebuilt.
+
+Works in a temporary folder, which is removed, or in DIR, which must be new or empty.
+Exit status 0 only if everything came out right.
+
+example: navorzim demo --keep demo-files
+";
+
+pub const FAMILY: &str = "\
+usage: navorzim family single-parity K R -o CODE
+       navorzim family liberation W K -o CODE
+       navorzim family row-diagonal P -o CODE
+
+Writes the code sheet CODE.
+
+  single-parity  K data disks of R rows and one parity disk; n at most 64, r 32, N 64
+  liberation     K data disks of W rows and two parity disks; W is 3, 5 or 7, K 2 to W
+  row-diagonal   P - 1 data disks of P - 1 rows and two parity disks; P is 3, 5 or 7
+
+Refused: 36.
+
+example: navorzim family liberation 5 5 -o code.sheet
+";
+
+pub const ENCODE: &str = "\
+usage: navorzim encode CODE --symbol L DATA -o STRIPES
+
+Reads the code sheet CODE and the file DATA, which holds K × L bytes for each stripe; writes
+as many stripes of N × L bytes to STRIPES.
+
+Refused: the code sheet (1 to 6), 31 (L is 1 to 65,536), 33 (DATA isn't whole stripes' data).
+
+example: navorzim encode code.sheet --symbol 64 register.txt -o stripes.bin
+";
+
+pub const PLAN: &str = "\
+usage: navorzim plan CODE DISK -o PLAN
+
+Reads the code sheet CODE; writes the plan sheet PLAN, by which disk DISK can be rebuilt.
+If no plan can do that, says so, prints the pattern that shows it, writes no file and ends
+with status 1: data that differs by the pattern gives the same bytes on all surviving disks.
+
+Refused: the code sheet (1 to 6), 7 (no such disk).
+
+example: navorzim plan code.sheet 0 -o plan.sheet
+";
+
+pub const CHECK: &str = "\
+usage: navorzim check CODE DISK PLAN
+
+Reads the code sheet CODE and the plan sheet PLAN, and judges whether the plan brings disk
+DISK back for every stripe of this code; says how many surviving symbols it reads.
+
+Refused: the code sheet (1 to 6), 7 (no such disk), the plan (11 to 22).
+
+example: navorzim check code.sheet 0 plan.sheet
+";
+
+pub const REBUILD: &str = "\
+usage: navorzim rebuild CODE DISK PLAN --symbol L STRIPES [-o OUT]
+
+Reads the code sheet CODE, the plan sheet PLAN and the stripes of N × L bytes in STRIPES;
+writes them with the strip of disk DISK rebuilt in each to OUT, or in place of STRIPES.
+The plan is checked for every stripe; what the lost strip holds doesn't matter.
+
+Refused: the code sheet (1 to 6), 7 (no such disk), the plan (11 to 22), 31 (L is 1 to
+65,536), 32 (STRIPES isn't whole stripes). STRIPES is then as it was.
+
+example: navorzim rebuild code.sheet 0 plan.sheet --symbol 64 stripes.bin
+";
+
+pub const STRIP: &str = "\
+usage: navorzim strip CODE DISK --symbol L STRIPES -o OUT
+
+Reads the code sheet CODE and the stripes of N × L bytes in STRIPES; writes the strips of
+disk DISK, r × L bytes of each stripe, one after the other to OUT.
+
+Refused: the code sheet (1 to 6), 7 (no such disk), 31 (L is 1 to 65,536), 32 (STRIPES isn't
+whole stripes).
+
+example: navorzim strip code.sheet 0 --symbol 64 stripes.bin -o disk0.bin
+";
+
+pub const SHOW: &str = "\
+usage: navorzim show CODE [--disk D] [--plan PLAN] [--svg FILE]
+
+Reads the code sheet CODE and draws it: disks as columns, rows as cells.
+
+  --disk D     disk D is lost: plans its rebuild and draws what is read and the steps, or,
+               with status 1, the pattern that shows why no plan can be
+  --plan PLAN  draws this plan for disk D instead; it is checked first
+  --svg FILE   writes the picture to FILE besides
+
+Colours appear on a terminal, unless NO_COLOR is set; COLUMNS sets the width (80).
+
+Refused: the code sheet (1 to 6), 7 (no such disk), the plan (11 to 22).
+
+example: navorzim show code.sheet --disk 0 --svg plan.svg
+";

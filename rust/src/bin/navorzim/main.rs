@@ -1,0 +1,96 @@
+//! `navorzim`: code sheets, plans and stripes in files, over the proved library.
+//!
+//! Exit status: 0 done, 1 refused or a disk that can't be rebuilt, 2 misuse or a file that can't be used.
+#![forbid(unsafe_code)]
+
+mod arguments;
+mod commands;
+mod demo;
+mod failure;
+mod files;
+mod help;
+mod picture;
+mod sheets;
+mod stream;
+mod svg;
+mod text;
+
+use arguments::shown;
+use failure::Failure;
+use std::ffi::{OsStr, OsString};
+use std::io::{self, ErrorKind, Write};
+use std::process::ExitCode;
+
+fn main() -> ExitCode {
+    let given: Vec<OsString> = std::env::args_os().skip(1).collect();
+    match answer(given) {
+        Ok(text) => ExitCode::from(print(&text, 0)),
+        Err(failure) => ExitCode::from(complain(&failure)),
+    }
+}
+
+/// What the command line asks for.
+fn answer(given: Vec<OsString>) -> Result<String, Failure> {
+    let mut given = given.into_iter();
+    let Some(first) = given.next() else {
+        return Err(misuse("no command is given".to_string()));
+    };
+    match first.to_str() {
+        Some("help" | "--help" | "-h") => help_for(given),
+        Some("--version" | "-V") => {
+            nothing_more(given)?;
+            Ok(format!("navorzim {}\n", env!("CARGO_PKG_VERSION")))
+        }
+        name => match name.and_then(commands::find) {
+            Some(command) => commands::run(command, given),
+            None => Err(unknown(&first)),
+        },
+    }
+}
+
+fn help_for(mut given: impl Iterator<Item = OsString>) -> Result<String, Failure> {
+    let Some(name) = given.next() else {
+        return Ok(help::ALL.to_string());
+    };
+    nothing_more(given)?;
+    match name.to_str().and_then(commands::find) {
+        Some(command) => Ok(command.help.to_string()),
+        None => Err(unknown(&name)),
+    }
+}
+
+fn nothing_more(mut given: impl Iterator<Item = OsString>) -> Result<(), Failure> {
+    match given.next() {
+        None => Ok(()),
+        Some(word) => Err(misuse(format!("'{}' is one word too many", shown(&word)))),
+    }
+}
+
+fn unknown(name: &OsStr) -> Failure {
+    misuse(format!("there is no command '{}'", shown(name)))
+}
+
+fn misuse(what: String) -> Failure {
+    Failure::Misuse { what, command: "" }
+}
+
+/// Prints an answer; the work is done by then, so a reader who has gone away changes nothing of its status.
+fn print(text: &str, status: u8) -> u8 {
+    let mut out = io::stdout().lock();
+    match out.write_all(text.as_bytes()).and_then(|()| out.flush()) {
+        Err(error) if error.kind() != ErrorKind::BrokenPipe => {
+            let _ = writeln!(io::stderr(), "navorzim: can't write the answer: {error}");
+            2
+        }
+        _ => status,
+    }
+}
+
+fn complain(failure: &Failure) -> u8 {
+    let status = match failure {
+        Failure::NoPlan { text, .. } | Failure::Unexpected { text, .. } => print(text, failure.status()),
+        _ => failure.status(),
+    };
+    let _ = writeln!(io::stderr(), "navorzim: {failure}");
+    status
+}

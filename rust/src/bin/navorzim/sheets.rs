@@ -1,0 +1,214 @@
+//! What stands in the sheets, for messages and pictures. The library alone judges them; these readers come after it.
+use crate::failure::{Failure, Refused};
+use crate::files::read_sheet;
+use navorzim::{Family, Refusal, LONGEST_CODE_SHEET, PLAN_BUFFER};
+use std::fmt::{self, Display};
+use std::path::{Path, PathBuf};
+
+/// A code sheet that the library takes, and what it says.
+#[derive(Debug)]
+pub struct Code {
+    pub file: PathBuf,
+    pub sheet: Vec<u8>,
+    /// n
+    pub disks: usize,
+    /// r
+    pub rows: usize,
+    /// K
+    pub data: usize,
+    /// one set of data symbols a symbol, bit 0 the lowest
+    pub sums: Vec<u64>,
+}
+
+impl Code {
+    /// Reads a code sheet's file.
+    pub fn open(file: &Path) -> Result<Code, Failure> {
+        let sheet = read_sheet(file, LONGEST_CODE_SHEET)?;
+        let told = format!("it has {} bytes", length(&sheet, LONGEST_CODE_SHEET));
+        Code::read(file, sheet).map_err(|refusal| {
+            let detail = match refusal {
+                Refusal::CodeSheetTooShort | Refusal::CodeSheetTooLong => told,
+                _ => String::new(),
+            };
+            Failure::refused(refusal, detail, file)
+        })
+    }
+
+    /// Reads a code sheet.
+    pub fn read(file: &Path, sheet: Vec<u8>) -> Result<Code, Refusal> {
+        // Asked about a plan of no bytes, the library refuses the code sheet or, if that is good, the plan: every array has a disk 0.
+        match navorzim::check(&sheet, 0, &[]) {
+            Err(refusal) if refusal.number() < 7 => return Err(refusal),
+            _ => {}
+        }
+        let [_, _, disks, rows, data, _, sums @ ..] = &sheet[..] else {
+            return Err(Refusal::CodeSheetTooShort);
+        };
+        let sums = sums.chunks_exact(8);
+        Ok(Code {
+            file: file.to_path_buf(),
+            disks: usize::from(*disks),
+            rows: usize::from(*rows),
+            data: usize::from(*data),
+            sums: sums.map(|row| row.iter().rev().fold(0, |sum, &byte| sum << 8 | u64::from(byte))).collect(),
+            sheet,
+        })
+    }
+
+    /// N.
+    pub fn symbols(&self) -> usize {
+        self.sums.len()
+    }
+
+    /// The disk that a symbol lies on.
+    pub fn disk_of(&self, symbol: usize) -> usize {
+        symbol / self.rows.max(1)
+    }
+
+    /// The row of its disk that a symbol lies in.
+    pub fn row_of(&self, symbol: usize) -> usize {
+        symbol % self.rows.max(1)
+    }
+
+    /// Where a data symbol stands as it is, if it does.
+    pub fn home_of(&self, data_symbol: usize) -> Option<usize> {
+        self.sums.iter().position(|&sum| sum.count_ones() == 1 && sum.trailing_zeros() as usize == data_symbol)
+    }
+
+    /// The shape in words.
+    pub fn shape(&self) -> String {
+        format!(
+            "{} of {}, {}",
+            counted(self.disks, "disk"),
+            counted(self.rows, "row"),
+            counted(self.data, "data symbol")
+        )
+    }
+
+    /// The family that this very sheet belongs to.
+    pub fn family(&self) -> Option<String> {
+        let (n, r) = (self.disks as u64, self.rows as u64);
+        let is = |family: Family| family.sheet().is_ok_and(|sheet| sheet == self.sheet);
+        let named = [
+            (
+                Family::Liberation { w: r, data_disks: n.saturating_sub(2) },
+                format!("Liberation, w {r}, k {}", n.saturating_sub(2)),
+            ),
+            (Family::RowDiagonal { p: r + 1 }, format!("Row-diagonal, p {}", r + 1)),
+            (
+                Family::SingleParity { data_disks: n.saturating_sub(1), rows: r },
+                format!("Single parity, k {}, r {r}", n.saturating_sub(1)),
+            ),
+        ];
+        named.into_iter().find(|(family, _)| is(*family)).map(|(_, name)| name)
+    }
+
+    /// The refusal of a disk, a plan or a symbol length, with the numbers at fault and the file that holds them.
+    pub fn explain(&self, refusal: Refusal, disk: u64, plan: Option<&Plan>, symbol: u64) -> Failure {
+        let own = Some(self.file.clone());
+        let planned = plan.map(|plan| plan.file.clone());
+        let (detail, file) = match refusal {
+            Refusal::NoSuchDisk => {
+                let last = self.disks.saturating_sub(1);
+                (format!("asked for {disk}, it has 0 to {last}"), own)
+            }
+            Refusal::SymbolLength => (format!("asked for {symbol}"), None),
+            _ => {
+                let detail = plan.map_or(String::new(), |plan| plan.detail(refusal, disk, self));
+                (detail, planned.or(own))
+            }
+        };
+        Failure::Refused(Refused { refusal, detail, file })
+    }
+}
+
+/// A plan sheet, of any bytes.
+#[derive(Debug)]
+pub struct Plan {
+    pub file: PathBuf,
+    pub sheet: Vec<u8>,
+}
+
+/// One step of a plan.
+#[derive(Clone, Copy, Debug, PartialEq, Eq)]
+pub struct Step {
+    pub kind: u8,
+    pub target: u8,
+    pub source: u8,
+}
+
+impl Plan {
+    /// Reads a plan sheet's file.
+    pub fn open(file: &Path) -> Result<Plan, Failure> {
+        Ok(Plan { file: file.to_path_buf(), sheet: read_sheet(file, PLAN_BUFFER)? })
+    }
+
+    /// The steps, as many as there are whole.
+    pub fn steps(&self) -> Vec<Step> {
+        let steps = self.sheet.get(9..).unwrap_or(&[]).chunks_exact(3);
+        steps.map(|step| Step { kind: step[0], target: step[1], source: step[2] }).collect()
+    }
+
+    /// What a refusal's sentence leaves open.
+    fn detail(&self, refusal: Refusal, disk: u64, code: &Code) -> String {
+        let byte = |at: usize| self.sheet.get(at).copied().unwrap_or(0);
+        match refusal {
+            Refusal::PlanSheetTooShort | Refusal::PlanSheetTooLong => {
+                format!("it has {} bytes", length(&self.sheet, PLAN_BUFFER))
+            }
+            Refusal::PlanOfAnotherCode => format!(
+                "the plan has n {}, r {}, K {}, the code {}, {}, {}",
+                byte(2),
+                byte(3),
+                byte(4),
+                code.disks,
+                code.rows,
+                code.data
+            ),
+            Refusal::PlanOfAnotherDisk => format!("the plan has {}, asked is {disk}", byte(5)),
+            Refusal::MalformedStep { step } | Refusal::TargetNotLost { step } | Refusal::UnfilledPlaceUsed { step } => {
+                self.step_detail(step)
+            }
+            Refusal::WrongReadCount { .. } => format!("the plan says {}", byte(6)),
+            _ => String::new(),
+        }
+    }
+
+    fn step_detail(&self, step: u64) -> String {
+        let at = usize::try_from(step).unwrap_or(usize::MAX);
+        match self.steps().get(at) {
+            Some(step) => format!("it has kind {}, target {}, source {}", step.kind, step.target, step.source),
+            None => String::new(),
+        }
+    }
+}
+
+impl Display for Step {
+    fn fmt(&self, f: &mut fmt::Formatter<'_>) -> fmt::Result {
+        match self.kind {
+            0 => write!(f, "{} ← zero", self.target),
+            1 => write!(f, "{} ← {}", self.target, self.source),
+            _ => write!(f, "{} += {}", self.target, self.source),
+        }
+    }
+}
+
+/// A sheet's length in words; of a long file no more is known, since no more of it was read.
+fn length(sheet: &[u8], longest: usize) -> String {
+    if sheet.len() > longest {
+        format!("more than {longest}")
+    } else {
+        sheet.len().to_string()
+    }
+}
+
+/// A number of things.
+pub fn counted<N: Display + PartialEq + From<u8>>(number: N, thing: &str) -> String {
+    let plural = if number == N::from(1) { "" } else { "s" };
+    format!("{number} {thing}{plural}")
+}
+
+/// The set bits, lowest first.
+pub fn members(set: u64) -> impl Iterator<Item = usize> {
+    (0..64).filter(move |bit| set >> bit & 1 == 1)
+}

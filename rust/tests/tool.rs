@@ -1,0 +1,783 @@
+//! The tool, run as a program over temporary folders. What it must answer comes from document 01's worked cases and from the
+//! independent model; after every failure the folder is compared with what it was, byte for byte.
+mod model;
+
+use model::random::{self, Random};
+use std::collections::BTreeMap;
+use std::ffi::OsStr;
+use std::fs::{self, File, Permissions};
+use std::os::unix::fs::{symlink, PermissionsExt};
+use std::os::unix::net::UnixListener;
+use std::path::{Path, PathBuf};
+use std::process::{Command, Stdio};
+use std::sync::atomic::{AtomicUsize, Ordering};
+
+const TOOL: &str = env!("CARGO_BIN_EXE_navorzim");
+
+/// A folder of its own for each test, removed at its end.
+struct Folder(PathBuf);
+
+impl Folder {
+    fn new() -> Folder {
+        static MADE: AtomicUsize = AtomicUsize::new(0);
+        let number = MADE.fetch_add(1, Ordering::Relaxed);
+        let name = format!("navorzim-test-{}-{number}", std::process::id());
+        let path = std::env::temp_dir().join(name);
+        fs::create_dir(&path).expect("a new folder");
+        Folder(path)
+    }
+
+    /// With the square code, its plan P2 for disk 0 and the stripe P1.
+    fn square() -> Folder {
+        let folder = Folder::new();
+        folder.put("code", &square_sheet());
+        folder.put("plan", &P2);
+        folder.put("data", &P1[..4]);
+        folder.put("stripes", &P1);
+        folder
+    }
+
+    fn put(&self, name: &str, bytes: &[u8]) {
+        fs::write(self.0.join(name), bytes).expect("written");
+    }
+
+    fn get(&self, name: &str) -> Vec<u8> {
+        fs::read(self.0.join(name)).expect("there is such a file")
+    }
+
+    fn has(&self, name: &str) -> bool {
+        fs::symlink_metadata(self.0.join(name)).is_ok()
+    }
+
+    /// Every file with its bytes, hidden ones too.
+    fn contents(&self) -> BTreeMap<PathBuf, Vec<u8>> {
+        let entries = fs::read_dir(&self.0).expect("a folder");
+        let paths = entries.map(|entry| entry.expect("an entry").path());
+        paths
+            .map(|path| {
+                let bytes = fs::read(&path).unwrap_or_default();
+                (path, bytes)
+            })
+            .collect()
+    }
+
+    /// Runs a line of the tool in the folder.
+    fn run(&self, line: &str) -> Ran {
+        self.run_words(line.split_whitespace())
+    }
+
+    fn run_words<W: AsRef<OsStr>>(&self, words: impl IntoIterator<Item = W>) -> Ran {
+        let mut command = Command::new(TOOL);
+        let command = command.args(words).current_dir(&self.0);
+        let command = command.env("TMPDIR", &self.0).env_remove("COLUMNS");
+        let output = command.output().expect("the tool runs");
+        let ran = Ran {
+            status: output.status.code().expect("it ends by itself"),
+            out: String::from_utf8(output.stdout).expect("text"),
+            err: String::from_utf8(output.stderr).expect("text"),
+        };
+        assert!(!ran.err.contains("panicked"), "{}", ran.err);
+        ran
+    }
+
+    /// Runs a line that must succeed.
+    fn done(&self, line: &str) -> String {
+        let ran = self.run(line);
+        assert_eq!((ran.status, &*ran.err), (0, ""), "{line}: {ran:?}");
+        ran.out
+    }
+
+    /// Runs a line that must fail with a status and leave every file as it was.
+    fn fails(&self, line: &str, status: i32) -> Ran {
+        let before = self.contents();
+        let ran = self.run(line);
+        assert_eq!(ran.status, status, "{line}: {ran:?}");
+        assert_eq!(self.contents(), before, "{line} changed the folder");
+        ran
+    }
+
+    /// Runs a line that must be refused with a number and place; answers the sentence.
+    fn refused(&self, line: &str, number: u64, place: u64) -> String {
+        let ran = self.fails(line, 1);
+        let head = format!("navorzim: refused {number} at {place}: ");
+        let sentence = ran.err.strip_prefix(&head);
+        assert_eq!(ran.out, "", "{line}");
+        sentence.unwrap_or_else(|| panic!("{line}: {} instead of {head}", ran.err)).trim_end().to_string()
+    }
+
+    /// Runs a line that is misused; answers what is said.
+    fn misused(&self, line: &str) -> String {
+        let ran = self.fails(line, 2);
+        assert_eq!(ran.out, "", "{line}");
+        assert!(ran.err.starts_with("navorzim: "), "{line}: {}", ran.err);
+        ran.err
+    }
+}
+
+impl Drop for Folder {
+    fn drop(&mut self) {
+        let _ = fs::remove_dir_all(&self.0);
+    }
+}
+
+#[derive(Debug)]
+struct Ran {
+    status: i32,
+    out: String,
+    err: String,
+}
+
+const P1: [u8; 8] = [0x11, 0x22, 0x44, 0x88, 0x55, 0xAA, 0x99, 0x66];
+const P2: [u8; 21] = [6, 1, 4, 2, 4, 0, 3, 4, 0, 1, 0, 2, 2, 0, 4, 1, 1, 2, 2, 1, 7];
+
+fn sheet(n: u8, r: u8, k: u8, rows: &[u64]) -> Vec<u8> {
+    let mut sheet = vec![4, 1, n, r, k, n * r];
+    sheet.extend(rows.iter().flat_map(|row| row.to_le_bytes()));
+    sheet
+}
+
+fn square_sheet() -> Vec<u8> {
+    sheet(4, 2, 4, &[1, 2, 4, 8, 5, 10, 9, 6])
+}
+
+/// P2 with one byte changed.
+fn p2_with(at: usize, byte: u8) -> Vec<u8> {
+    let mut plan = P2.to_vec();
+    plan[at] = byte;
+    plan
+}
+
+/// Stripes of Liberation, w 5, k 5, of so many stripes with symbols of 64 bytes, and their data.
+fn liberation_stripes(folder: &Folder, count: usize) -> (Vec<u8>, Vec<u8>) {
+    let sheet = model::family("liberation", 5, 5).expect("listed");
+    let data = Random::new(count as u64).bytes(count * 25 * 64);
+    let stripes =
+        data.chunks(25 * 64).flat_map(|data| model::encode(&sheet, 64, data, 35 * 64).expect("encoded")).collect();
+    folder.put("code", &sheet);
+    (data, stripes)
+}
+
+/// The stripes with a disk's strip ruined in each.
+fn ruined(stripes: &[u8], disk: usize) -> Vec<u8> {
+    let mut ruined = stripes.to_vec();
+    let strip = 5 * 64;
+    for stripe in ruined.chunks_mut(35 * 64) {
+        stripe[disk * strip..(disk + 1) * strip].fill(0xA5);
+    }
+    ruined
+}
+
+#[test]
+fn families_are_written() {
+    let folder = Folder::new();
+    for (line, name, a, b) in [
+        ("liberation 5 5", "liberation", 5, 5),
+        ("liberation 7 2", "liberation", 7, 2),
+        ("row-diagonal 3", "row-diagonal", 3, 0),
+        ("single-parity 63 1", "single parity", 63, 1),
+        ("single-parity 1 32", "single parity", 1, 32),
+    ] {
+        let said = folder.done(&format!("family {line} -o code"));
+        let expected = model::family(name, a, b).expect("listed");
+        assert_eq!(folder.get("code"), expected, "{line}");
+        assert!(said.contains(&format!("{} bytes", expected.len())), "{said}");
+    }
+    let sentence = folder.refused("family liberation 4 4 -o code", 36, 0);
+    assert!(sentence.ends_with("liberation w 4, k 4"), "{sentence}");
+    folder.refused("family single-parity 18446744073709551615 2 -o new", 36, 0);
+    folder.refused("family row-diagonal 4 -o new", 36, 0);
+}
+
+#[test]
+fn data_is_encoded() {
+    let folder = Folder::square();
+    folder.done("encode code --symbol 1 data -o out");
+    assert_eq!(folder.get("out"), P1);
+    // An option's value may be joined to it, and `--` ends the options.
+    folder.done("encode --symbol=1 --output=again -- code data");
+    assert_eq!(folder.get("again"), P1);
+}
+
+#[test]
+fn many_stripes_are_encoded() {
+    let folder = Folder::new();
+    let (data, stripes) = liberation_stripes(&folder, 7);
+    folder.put("data", &data);
+    let said = folder.done("encode code --symbol 64 data -o out");
+    assert_eq!(said, "wrote out: 7 stripes of 35 symbols of 64 bytes\n");
+    assert_eq!(folder.get("out"), stripes);
+}
+
+#[test]
+fn data_of_a_wrong_length_is_refused() {
+    let folder = Folder::square();
+    folder.put("odd", &[7; 13]);
+    folder.put("empty", &[]);
+    let sentence = folder.refused("encode code --symbol 3 odd -o out", 33, 0);
+    assert!(sentence.contains("13 bytes"), "{sentence}");
+    assert!(sentence.contains("4 × 3 = 12"), "{sentence}");
+    assert!(sentence.ends_with("(odd)"), "{sentence}");
+    folder.refused("encode code --symbol 1 empty -o out", 33, 0);
+    folder.refused("encode code --symbol 0 data -o out", 31, 0);
+    folder.refused("encode code --symbol 65537 data -o out", 31, 0);
+    folder.refused("encode code --symbol 18446744073709551615 data -o out", 31, 0);
+    // The order of the rules: the code sheet goes before the symbol length, and that before the data.
+    folder.refused("encode empty --symbol 0 odd -o out", 1, 0);
+    folder.refused("encode code --symbol 0 odd -o out", 31, 0);
+}
+
+#[test]
+fn outputs_are_no_inputs() {
+    let folder = Folder::square();
+    symlink("data", folder.0.join("link")).expect("a link");
+    for line in [
+        "encode code --symbol 1 data -o data",
+        "encode code --symbol 1 data -o ./data",
+        "encode code --symbol 1 data -o link",
+        "encode code --symbol 1 data -o code",
+        "strip code 0 --symbol 1 stripes -o stripes",
+        "strip code 0 --symbol 1 stripes -o code",
+        "plan code 0 -o code",
+        "rebuild code 0 plan --symbol 1 stripes -o plan",
+        "rebuild code 0 plan --symbol 1 stripes -o code",
+        "show code --svg code",
+        "show code --disk 0 --plan plan --svg plan",
+    ] {
+        assert!(folder.misused(line).contains("is also read"), "{line}");
+    }
+}
+
+#[test]
+fn disks_are_planned_and_plans_checked() {
+    let folder = Folder::new();
+    liberation_stripes(&folder, 1);
+    for disk in 0..7 {
+        let said = folder.done(&format!("plan code {disk} -o plan"));
+        let reads = model::check(&folder.get("code"), disk, &folder.get("plan")).expect("accepted");
+        let (length, steps) = (folder.get("plan").len(), (folder.get("plan").len() - 9) / 3);
+        assert_eq!(said, format!("wrote plan: {length} bytes, {steps} steps, reads {reads} symbols\n"));
+        let said = folder.done(&format!("check code {disk} plan"));
+        assert_eq!(said, format!("accepted, reads {reads} symbols\n"));
+    }
+    let sentence = folder.refused("plan code 7 -o none", 7, 0);
+    assert!(sentence.contains("asked for 7, it has 0 to 6"), "{sentence}");
+}
+
+#[test]
+fn a_disk_without_a_plan_has_a_pattern() {
+    let folder = Folder::new();
+    folder.put("apart", &sheet(2, 1, 2, &[1, 2]));
+    let ran = folder.fails("plan apart 0 -o plan", 1);
+    assert!(ran.out.contains("The pattern is 1, bits 01 (bit 0 last): d0 (disk 0 row 0)."), "{}", ran.out);
+    assert_eq!(ran.err, "navorzim: disk 0 can't be rebuilt by any plan (apart)\n");
+    let ran = folder.fails("show apart --disk 0", 1);
+    assert!(ran.out.contains("│≠ 0 d0"), "{}", ran.out);
+    assert!(ran.out.contains("│· 1 d1"), "{}", ran.out);
+    assert!(ran.out.contains("agree on all surviving disks, not on disk 0 row 0.\n"), "{}", ran.out);
+
+    // A sum in which the pattern cancels out.
+    folder.put("sums", &sheet(2, 1, 2, &[1, 3]));
+    let ran = folder.fails("show sums --disk 0", 1);
+    assert!(ran.out.contains("The pattern is 3, bits 11"), "{}", ran.out);
+    assert!(ran.out.contains("│○ 1 d0+d1 │"), "{}", ran.out);
+
+    // A symbol that is zero, and one row of two that the pattern reaches.
+    folder.put("sums", &sheet(2, 2, 3, &[2, 4, 3, 0]));
+    let ran = folder.fails("show sums --disk 0", 1);
+    assert!(ran.out.contains("zero"), "{}", ran.out);
+    let pattern = ran.out.split("The pattern is ").nth(1).expect("a pattern");
+    let pattern: u64 = pattern.split(',').next().unwrap().parse().expect("number");
+    let code = model::read_code(&folder.get("sums")).expect("good");
+    assert!(model::good_pattern(&code, 0, pattern, 3), "{pattern}");
+}
+
+#[test]
+fn worked_plans_get_their_answers() {
+    let folder = Folder::square();
+    assert_eq!(folder.done("check code 0 plan"), "accepted, reads 3 symbols\n");
+    for (plan, number, place) in [
+        (p2_with(6, 4), 22, 3),
+        (p2_with(20, 6), 21, 1),
+        (p2_with(9, 2), 19, 0),
+        (p2_with(10, 2), 18, 0),
+        (p2_with(9, 3), 17, 0),
+        (vec![6, 1, 4, 2, 4, 0, 3, 0, 0], 20, 0),
+        (p2_with(2, 5), 15, 0),
+        (p2_with(5, 1), 16, 0),
+        (p2_with(1, 2), 14, 0),
+        (p2_with(0, 5), 13, 0),
+        (p2_with(8, 5), 13, 0),
+        (p2_with(7, 5), 11, 0),
+        (p2_with(7, 3), 12, 0),
+        (vec![], 11, 0),
+    ] {
+        folder.put("plan", &plan);
+        folder.refused("check code 0 plan", number, place);
+        folder.refused("show code --disk 0 --plan plan --svg drawing", number, place);
+        folder.refused("rebuild code 0 plan --symbol 1 stripes", number, place);
+        folder.refused("rebuild code 0 plan --symbol 1 stripes -o out", number, place);
+    }
+    folder.put("plan", &p2_with(20, 6));
+    let sentence = folder.refused("check code 0 plan", 21, 1);
+    assert_eq!(sentence, "row 1 of the failed disk ends wrong under this code (plan)");
+    folder.put("plan", &P2);
+    folder.put("other", &sheet(4, 2, 4, &[1, 2, 4, 8, 5, 10, 9, 7]));
+    folder.refused("rebuild other 0 plan --symbol 1 stripes", 21, 1);
+    folder.put("other", &sheet(4, 2, 4, &[1, 2, 4, 8, 5, 10, 9, 22]));
+    let sentence = folder.refused("check other 0 plan", 6, 7 * 64 + 4);
+    assert!(sentence.ends_with("(other)"), "{sentence}");
+}
+
+#[test]
+fn many_stripes_are_rebuilt_in_place() {
+    let folder = Folder::new();
+    // Some megabytes, more than any buffer of the tool holds.
+    let (_, stripes) = liberation_stripes(&folder, 1500);
+    for disk in [0, 3, 6] {
+        folder.put("stripes", &ruined(&stripes, disk));
+        folder.done(&format!("plan code {disk} -o plan"));
+        let said = folder.done(&format!("rebuild code {disk} plan --symbol 64 stripes"));
+        assert_eq!(said, format!("rebuilt disk {disk} in 1500 stripes: stripes\n"));
+        assert!(folder.get("stripes") == stripes, "disk {disk}");
+    }
+    assert_eq!(folder.contents().len(), 3, "no stray file");
+}
+
+#[test]
+fn rebuilding_elsewhere_leaves_the_stripes() {
+    let folder = Folder::square();
+    folder.put("stripes", &[0xFF, 0xFF, 0x44, 0x88, 0x55, 0xAA, 0x99, 0x66]);
+    folder.done("rebuild code 0 plan --symbol 1 stripes -o out");
+    assert_eq!(folder.get("out"), P1);
+    assert_eq!(folder.get("stripes")[..2], [0xFF, 0xFF]);
+    folder.done("rebuild code 0 plan --symbol 1 stripes -o stripes");
+    assert_eq!(folder.get("stripes"), P1);
+}
+
+#[test]
+fn stripes_of_a_wrong_length_are_refused() {
+    let folder = Folder::square();
+    for length in [0, 1, 7, 9, 15, 17, 100] {
+        folder.put("odd", &vec![1; length]);
+        for line in [
+            "rebuild code 0 plan --symbol 1 odd",
+            "rebuild code 0 plan --symbol 1 odd -o out",
+            "strip code 0 --symbol 1 odd -o out",
+        ] {
+            let sentence = folder.refused(line, 32, 0);
+            assert!(sentence.contains(&format!("has {length} bytes")), "{sentence}");
+            assert!(sentence.contains("8 × 1 = 8"), "{sentence}");
+        }
+    }
+    folder.refused("rebuild code 0 plan --symbol 0 odd", 31, 0);
+    folder.refused("strip code 4 --symbol 0 odd -o out", 7, 0);
+}
+
+#[test]
+fn permissions_and_links_stay() {
+    let folder = Folder::square();
+    let stripes = folder.0.join("stripes");
+    fs::set_permissions(&stripes, Permissions::from_mode(0o640)).expect("set");
+    symlink("stripes", folder.0.join("link")).expect("a link");
+    folder.put("stripes", &[0, 0, 0x44, 0x88, 0x55, 0xAA, 0x99, 0x66]);
+    folder.done("rebuild code 0 plan --symbol 1 link");
+    assert_eq!(folder.get("stripes"), P1);
+    let link = fs::symlink_metadata(folder.0.join("link")).expect("there");
+    assert!(link.file_type().is_symlink());
+    let mode = fs::metadata(&stripes).expect("there").permissions().mode();
+    assert_eq!(mode & 0o7777, 0o640);
+
+    fs::set_permissions(&stripes, Permissions::from_mode(0o440)).expect("set");
+    let said = folder.misused("rebuild code 0 plan --symbol 1 stripes");
+    assert!(said.contains("write-protected"), "{said}");
+}
+
+#[test]
+fn strips_are_taken_out() {
+    let folder = Folder::new();
+    let (_, stripes) = liberation_stripes(&folder, 9);
+    folder.put("stripes", &stripes);
+    for disk in 0..7 {
+        let said = folder.done(&format!("strip code {disk} --symbol 64 stripes -o out"));
+        let strips: Vec<u8> =
+            stripes.chunks(35 * 64).flat_map(|stripe| stripe[disk * 320..(disk + 1) * 320].to_vec()).collect();
+        assert!(folder.get("out") == strips, "disk {disk}");
+        let expected = format!("wrote out: 9 strips of disk {disk}, 5 symbols of 64 bytes each\n");
+        assert_eq!(said, expected);
+    }
+}
+
+#[test]
+fn the_square_code_is_drawn() {
+    let folder = Folder::square();
+    assert_eq!(
+        folder.done("show code"),
+        "\
+4 disks of 2 rows, 4 data symbols
+
+          disk 0     disk 1     disk 2     disk 3
+       ┌──────────┬──────────┬──────────┬──────────┐
+row 0  │  0 d0    │  2 d2    │  4 d0+d2 │  6 d0+d3 │
+row 1  │  1 d1    │  3 d3    │  5 d1+d3 │  7 d1+d2 │
+       └──────────┴──────────┴──────────┴──────────┘
+
+A cell: the symbol's number and what it is; d3 is data symbol 3.
+"
+    );
+    let plan = folder.done("show code --disk 0 --plan plan");
+    assert!(plan.contains("4 steps, reads 3 of 6 surviving symbols"), "{plan}");
+    assert!(plan.contains("│× 0 d0    │● 2 d2    │● 4 d0+d2 │· 6 d0+d3 │"), "{plan}");
+    assert!(plan.contains("│× 1 d1    │· 3 d3    │· 5 d1+d3 │● 7 d1+d2 │"), "{plan}");
+    assert!(plan.contains("0: 0 ← 2    1: 0 += 4   2: 1 ← 2    3: 1 += 7"), "{plan}");
+    let planned = folder.done("show code --disk 3");
+    assert!(planned.contains("Disk 3 is lost. The plan, checked"), "{planned}");
+    // A clear reads nothing, though its source byte is 0.
+    folder.put("zero", &sheet(2, 1, 1, &[1, 0]));
+    let cleared = folder.done("show zero --disk 1");
+    assert!(cleared.contains("1 step, reads 0 of 1"), "{cleared}");
+    assert!(cleared.contains("│· 0 d0"), "{cleared}");
+    assert!(cleared.contains("0: 1 ← zero"), "{cleared}");
+}
+
+#[test]
+fn drawings_keep_the_width() {
+    let folder = Folder::new();
+    for family in ["single-parity 63 1", "single-parity 1 32", "liberation 7 7"] {
+        folder.done(&format!("family {family} -o code"));
+        for columns in ["40", "80", "133"] {
+            let mut show = Command::new(TOOL);
+            show.args(["show", "code", "--disk", "0"]);
+            let show = show.current_dir(&folder.0).env("COLUMNS", columns);
+            let out = show.output().expect("it runs").stdout;
+            let out = String::from_utf8(out).expect("text");
+            let widest = out.lines().map(|line| line.chars().count()).max();
+            let limit: usize = columns.parse().expect("a number");
+            assert!(widest.is_some_and(|width| width <= limit), "{out}");
+            assert!(!out.contains('\x1b'), "no colours but on a terminal");
+        }
+    }
+}
+
+#[test]
+fn pictures_are_well_formed() {
+    let folder = Folder::square();
+    folder.put("apart", &sheet(2, 1, 2, &[1, 2]));
+    folder.done("family single-parity 63 1 -o wide");
+    for (line, status, piece) in [
+        ("show code --svg out", 0, "data symbol as it is (4)"),
+        ("show code --disk 0 --plan plan --svg out", 0, "survives, read (3)"),
+        ("show apart --disk 1 --svg out", 1, "lost, differs (1)"),
+        ("show wide --disk 63 --svg out", 0, "63 steps"),
+    ] {
+        assert_eq!(folder.run(line).status, status, "{line}");
+        let picture = String::from_utf8(folder.get("out")).expect("text");
+        assert!(picture.contains(piece), "{line}: {picture}");
+        balanced(&picture);
+        fs::remove_file(folder.0.join("out")).expect("it was written");
+    }
+}
+
+/// Every tag is closed by its like, and nothing stands outside.
+fn balanced(picture: &str) {
+    let mut open = Vec::new();
+    let mut rest = picture;
+    while let Some(start) = rest.find('<') {
+        let end = rest[start..].find('>').expect("a tag ends") + start;
+        let tag = &rest[start + 1..end];
+        assert!(!rest[..start].contains('&') || rest[..start].contains(';'));
+        assert_eq!(tag.matches('"').count() % 2, 0, "{tag}");
+        let name = tag.trim_start_matches('/').split(' ').next();
+        let name = name.expect("a name").to_string();
+        if tag.starts_with('/') {
+            assert_eq!(open.pop(), Some(name), "{tag}");
+        } else if !tag.ends_with('/') {
+            open.push(name);
+        }
+        rest = &rest[end + 1..];
+    }
+    assert!(open.is_empty(), "{open:?} stay open");
+    assert!(picture.starts_with("<svg ") && picture.ends_with("</svg>\n"));
+}
+
+/// What the model says about a plan, as the tool's status and the head of its message.
+fn expected(answer: Result<u64, model::No>) -> (i32, String) {
+    match answer {
+        Ok(reads) => (0, format!("accepted, reads {reads} symbols\n")),
+        Err((number, place)) => (1, format!("navorzim: refused {number} at {place}: ")),
+    }
+}
+
+fn judged_like_the_model(folder: &Folder, code: &[u8], plan: &[u8]) {
+    folder.put("code", code);
+    folder.put("plan", plan);
+    let (status, head) = expected(model::check(code, 0, plan));
+    let ran = folder.run("check code 0 plan");
+    let said = if status == 0 { &ran.out } else { &ran.err };
+    assert_eq!(ran.status, status, "{code:?} {plan:?} {ran:?}");
+    assert!(said.starts_with(&head), "{head}: {said}, {code:?} {plan:?}");
+    let before = folder.contents();
+    if folder.run("rebuild code 0 plan --symbol 1 stripes").status != 0 {
+        assert_eq!(folder.contents(), before, "{code:?} {plan:?}");
+    }
+}
+
+#[test]
+fn damaged_sheets_are_judged_as_the_rules_say() {
+    let folder = Folder::square();
+    let code = square_sheet();
+    for cut in (0..code.len()).step_by(3) {
+        judged_like_the_model(&folder, &code[..cut], &P2);
+    }
+    for cut in 0..P2.len() {
+        judged_like_the_model(&folder, &code, &P2[..cut]);
+    }
+    let mut random = Random::new(11);
+    for _ in 0..150 {
+        let damaged_code = match random.one_in(2) {
+            true => random::damaged(&mut random, &code),
+            false => code.clone(),
+        };
+        let damaged_plan = random::damaged(&mut random, &P2);
+        judged_like_the_model(&folder, &damaged_code, &damaged_plan);
+        folder.put("stripes", &P1);
+    }
+    for length in [1, 100, 518, 519, 3081, 3082, 3_000_000] {
+        let noise = random.bytes(length);
+        judged_like_the_model(&folder, &noise, &P2);
+        judged_like_the_model(&folder, &code, &noise);
+    }
+}
+
+#[test]
+fn damaged_sheets_fail_every_command() {
+    let folder = Folder::square();
+    let mut random = Random::new(12);
+    for round in 0..40 {
+        let noise = random.below(700);
+        let mut noise = random.bytes(noise);
+        if round % 2 == 0 && !noise.is_empty() {
+            noise[0] = 4;
+        }
+        folder.put("noise", &noise);
+        let (number, place) = model::read_code(&noise).expect_err("noise is no code");
+        for line in [
+            "encode noise --symbol 1 data -o out",
+            "plan noise 0 -o out",
+            "strip noise 0 --symbol 1 stripes -o out",
+            "show noise --svg out",
+        ] {
+            folder.refused(line, number, place);
+        }
+    }
+}
+
+#[test]
+fn huge_files_are_no_burden() {
+    let folder = Folder::square();
+    // Holes: nothing of it is on the disk, but reading it would take minutes.
+    let huge = File::create(folder.0.join("huge")).expect("created");
+    huge.set_len((1 << 36) + 1).expect("a hole");
+    let run = |line: &str| {
+        let ran = folder.run(line);
+        assert_eq!(ran.status, 1, "{ran:?}");
+        ran.err
+    };
+    assert!(run("check huge 0 plan").contains("refused 3 at 0"));
+    assert!(run("check code 0 huge").contains("refused 13 at 0"));
+    let said = run("rebuild code 0 plan --symbol 1 huge");
+    assert!(said.contains("refused 32 at 0"), "{said}");
+    assert!(said.contains("68719476737 bytes"), "{said}");
+    assert!(run("encode code --symbol 1 huge -o out").contains("refused 33 at 0"));
+    assert!(run("strip code 0 --symbol 1 huge -o out").contains("refused 32 at 0"));
+    assert!(!folder.has("out"));
+
+    // A good sheet with a tail is too long, however long the tail is.
+    folder.put("tail", &square_sheet());
+    let tail = File::options().write(true).open(folder.0.join("tail")).expect("opened");
+    tail.set_len(1 << 36).expect("a hole");
+    assert!(run("check tail 0 plan").contains("refused 2 at 0"));
+}
+
+#[test]
+fn one_byte_above_the_longest_sheet_is_too_long() {
+    let folder = Folder::square();
+    folder.done("family single-parity 63 1 -o longest");
+    let mut longest = folder.get("longest");
+    assert_eq!(longest.len(), 518);
+    folder.done("show longest");
+    longest.push(0);
+    folder.put("longer", &longest);
+    let sentence = folder.refused("show longer", 2, 0);
+    assert!(sentence.contains("more than 518 bytes"), "{sentence}");
+
+    // 1,020 clears, and then the steps of P2.
+    let mut plan = P2[..9].to_vec();
+    plan[7..9].copy_from_slice(&1024u16.to_le_bytes());
+    plan.extend([0; 3 * 1020]);
+    plan.extend(&P2[9..]);
+    assert_eq!(plan.len(), 3081);
+    folder.put("plan", &plan);
+    assert_eq!(folder.done("check code 0 plan"), "accepted, reads 3 symbols\n");
+    assert!(folder.done("show code --disk 0 --plan plan").contains("1023: 1 += 7"));
+    plan.push(0);
+    folder.put("plan", &plan);
+    let sentence = folder.refused("check code 0 plan", 12, 0);
+    assert!(sentence.contains("more than 3081 bytes"), "{sentence}");
+}
+
+#[test]
+fn an_error_on_the_way_leaves_nothing_behind() {
+    // The kernel says 4,096 bytes of this file and gives fewer: it ends while it is read.
+    let short = Path::new("/sys/devices/system/cpu/online");
+    if !fs::metadata(short).is_ok_and(|metadata| metadata.len() == 4096) {
+        println!("not tried: there is no such file here");
+        return;
+    }
+    let folder = Folder::square();
+    folder.put("out", b"as it was");
+    for line in [
+        "encode code --symbol 1024 /sys/devices/system/cpu/online -o out",
+        "encode code --symbol 1 /sys/devices/system/cpu/online -o new",
+        "strip code 0 --symbol 512 /sys/devices/system/cpu/online -o out",
+        "rebuild code 0 plan --symbol 512 /sys/devices/system/cpu/online -o out",
+    ] {
+        let said = folder.misused(line);
+        assert!(said.contains("it changed while it was read"), "{said}");
+    }
+}
+
+#[test]
+fn misuse_is_explained() {
+    let folder = Folder::square();
+    for (line, piece) in [
+        ("", "no command"),
+        ("rebuilt", "no command 'rebuilt'"),
+        ("help rebuilt", "no command 'rebuilt'"),
+        ("help check plan", "'plan' is one word too many"),
+        ("check", "CODE is missing"),
+        ("check code 0", "PLAN is missing"),
+        ("check code 0 plan plan", "'plan' is one word too many"),
+        ("check code zero plan", "not 'zero'"),
+        ("check code +0 plan", "not '+0'"),
+        ("check code 0x1 plan", "not '0x1'"),
+        ("check code 18446744073709551616 plan", "DISK must be a decimal number"),
+        ("check code -1 plan", "no option -1"),
+        ("check code 0 plan --fast", "no option --fast"),
+        ("check - 0 plan", "standard input and output aren't supported"),
+        ("plan code 0", "-o FILE is missing"),
+        ("plan code 0 -o", "-o needs a value"),
+        ("plan code 0 -o a -o b", "-o is given twice"),
+        ("plan code 0 -o -", "standard input and output aren't supported"),
+        ("encode code data -o out", "--symbol L is missing"),
+        ("encode code --symbol one data -o out", "--symbol must be a decimal number"),
+        ("family hamming 7 4 -o out", "no family 'hamming'"),
+        ("show code --plan plan", "--plan needs --disk"),
+        ("show code --disk=x", "not 'x'"),
+        ("demo now", "'now' is one word too many"),
+    ] {
+        let said = folder.misused(line);
+        assert!(said.contains(piece), "{line}: {said}");
+        assert!(said.contains("says how it is used"), "{line}: {said}");
+    }
+}
+
+#[test]
+fn files_that_cannot_be_used_are_named() {
+    let folder = Folder::square();
+    fs::create_dir(folder.0.join("folder")).expect("created");
+    symlink("nowhere", folder.0.join("dangling")).expect("a link");
+    // Special files are tried inside the folder: a tool that fails here would replace what it is given.
+    let _socket = UnixListener::bind(folder.0.join("socket")).expect("a socket");
+    for (line, piece) in [
+        ("check nowhere 0 plan", "can't read nowhere"),
+        ("check code 0 nowhere", "can't read nowhere"),
+        ("check folder 0 plan", "can't read folder"),
+        ("encode code --symbol 1 folder -o out", "it is a folder"),
+        ("encode code --symbol 1 nowhere -o out", "can't read nowhere"),
+        ("encode code --symbol 1 socket -o out", "it isn't a regular file"),
+        ("encode code --symbol 1 data -o folder", "it is a folder"),
+        ("encode code --symbol 1 data -o folder/", "it is a folder"),
+        ("encode code --symbol 1 data -o new/", "no name for a file"),
+        ("encode code --symbol 1 data -o nowhere/out", "can't write nowhere/out"),
+        ("encode code --symbol 1 data -o dangling", "a link to nothing"),
+        ("plan code 0 -o socket", "it isn't a regular file"),
+        ("demo --keep .", "it isn't empty"),
+    ] {
+        let said = folder.misused(line);
+        assert!(said.contains(piece), "{line}: {said}");
+    }
+}
+
+#[test]
+fn names_of_any_bytes_are_taken() {
+    use std::os::unix::ffi::OsStrExt;
+    let folder = Folder::square();
+    let odd = OsStr::from_bytes(b"out\xff\n");
+    let ran = folder.run_words([OsStr::new("plan"), "code".as_ref(), "0".as_ref(), "-o".as_ref(), odd]);
+    assert_eq!(ran.status, 0, "{ran:?}");
+    assert!(folder.0.join(Path::new(odd)).is_file());
+    let ran = folder.run_words([OsStr::new("check"), "code".as_ref(), odd, "plan".as_ref()]);
+    assert_eq!(ran.status, 2, "{ran:?}");
+    let option = OsStr::from_bytes(b"--\xff");
+    assert_eq!(folder.run_words([OsStr::new("check"), option]).status, 2);
+    assert_eq!(folder.run_words([odd]).status, 2);
+}
+
+#[test]
+fn help_is_there_and_its_examples_run() {
+    let folder = Folder::new();
+    folder.put("register.txt", &[b'x'; 25 * 64 * 3]);
+    let all = folder.done("help");
+    assert_eq!(folder.done("--help"), all);
+    for command in ["family", "encode", "plan", "check", "rebuild", "strip", "show", "demo"] {
+        assert!(all.contains(&format!("\n  {command} ")), "{command}");
+        let help = folder.done(&format!("{command} --help"));
+        assert_eq!(folder.done(&format!("help {command}")), help);
+        assert!(help.starts_with(&format!("usage: navorzim {command} ")));
+        let example = help.split("example: navorzim ").nth(1).expect("an example");
+        folder.done(example.trim_end());
+    }
+    assert!(folder.done("--version").starts_with("navorzim "));
+    assert!(folder.has("plan.svg") && folder.has("disk0.bin") && folder.has("demo-files"));
+}
+
+#[test]
+fn the_demonstration_comes_out_right() {
+    let folder = Folder::new();
+    let said = folder.done("demo");
+    for piece in [
+        "compared: all 4480 bytes are as they were",
+        "refused 21 at 0: row 0 of the failed disk ends wrong under this code (plan.sheet)",
+        "refused 15 at 0: ",
+        "compared: not a byte of stripes.bin has changed",
+        "The pattern is 8, bits 001000",
+        "Everything came out right.",
+    ] {
+        assert!(said.contains(piece), "{piece}: {said}");
+    }
+    assert_eq!(folder.contents().len(), 0, "the temporary folder is removed");
+    folder.done("demo --keep kept");
+    let code = fs::read(folder.0.join("kept/code.sheet")).expect("kept");
+    assert_eq!(code, model::family("liberation", 5, 5).expect("listed"));
+    assert!(folder.misused("demo --keep kept").contains("it isn't empty"));
+}
+
+#[test]
+fn a_reader_who_leaves_is_no_failure() {
+    let folder = Folder::new();
+    folder.done("family single-parity 63 1 -o code");
+    let mut show = Command::new(TOOL);
+    show.args(["show", "code", "--disk", "0"]).current_dir(&folder.0);
+    let show = show.stdout(Stdio::piped()).stderr(Stdio::piped());
+    let mut child = show.spawn().expect("it runs");
+    drop(child.stdout.take());
+    let output = child.wait_with_output().expect("it ends");
+    assert_eq!((output.status.code(), &output.stderr[..]), (Some(0), &b""[..]));
+
+    let full = File::options().write(true).open("/dev/full").expect("there");
+    let mut version = Command::new(TOOL);
+    let version = version.arg("--version").stdout(full).stderr(Stdio::piped());
+    let output = version.output().expect("it runs");
+    assert_eq!(output.status.code(), Some(2));
+    assert!(String::from_utf8_lossy(&output.stderr).contains("can't write the answer"));
+}
