@@ -8,7 +8,7 @@ use lib.ListN.{length, getD, replicate}
 use borrow.Author.Tests.{ltb-true, le-ltb}
 use Rattle.cases.specs.Cases.{square, apart, emptyRow, table, AllRight}
 use Rattle.plans.specs.Check.{checked, checkVerdict}
-use Rattle.plans.specs.Judgement.{lost, survives, stepsVerdict, readByAny, howMany, bodyVerdict}
+use Rattle.plans.specs.Judgement.{lost, survives, stepsVerdict, readByAny, howMany, judgement, bodyVerdict}
 use Rattle.plans.specs.Plans.{sheetSteps}
 use Rattle.plans.proofs.JudgementLaws.{length-matrix, matrix-below, lost-below}
 use Rattle.plans.proofs.PatternLaws.{zero-on-survivors, one-on-lost, no-plan-if-pattern-odd}
@@ -175,7 +175,7 @@ p1 before e = rw e
 -- The table
 
 pub all-right : AllRight table
-unfolding table square emptyRow rowBytes lowBytes lowFirst checked checkVerdict reading codeVerdict codeIn rowIn rowsOf tabulate strayAt firstFrom has with orIf symbolsOf firstSymbol heightOf onDisk bodyVerdict stepsVerdict sheetSteps run filledAfter readByAny howMany familyCode familyRow diskRow unit sumOver extraEntry diagonalEntry stripeAfter rebuildVerdict runOnStripe putSymbol xorBytes deskText codeSheetIn planSheetIn sheetLengthIn labelled codeLine diskLine acceptedLines decimal digits
+unfolding table square emptyRow rowBytes lowBytes lowFirst checked checkVerdict reading codeVerdict codeIn rowIn rowsOf tabulate strayAt firstFrom has with orIf symbolsOf firstSymbol heightOf onDisk bodyVerdict judgement stepsVerdict sheetSteps run filledAfter readByAny howMany familyCode familyRow diskRow unit sumOver extraEntry diagonalEntry stripeAfter rebuildVerdict runOnStripe putSymbol xorBytes deskText codeSheetIn planSheetIn sheetLengthIn labelled codeLine diskLine acceptedLines decimal digits
 all-right = (
   p1,
   (

@@ -7,7 +7,7 @@ use Prim.Native.Nat.{ℕ, suc, _+_, _-_, _*_, _^_, _≤_, _<_}
 use native.Mathlib.Omega.{arith}
 use native.Mathlib.Decide.{decLe, decLt}
 use lib.Dec.{eqb, ltb}
-use lib.ListN.{length, getD, List·getD-eq-default}
+use lib.ListN.{length, getD, take, List·getD-eq-default}
 use lib.Pow.{pow-pos}
 use lib.Seq.{length-take-le, getD-take}
 use borrow.Author.Tests.{lt-ltb, le-ltb, ltb-true, ltb-false, eq-eqb, eqb-true, not-false}
@@ -16,7 +16,7 @@ use Rattle.codes.specs.Layouts.{symbolsOf, firstSymbol, heightOf, onDisk}
 use Rattle.codes.specs.declared.Code.{Code}
 use Rattle.codes.specs.declared.Layout.{Layout}
 use Rattle.codes.proofs.LayoutLaws.{strip-within, onDisk-above, onDisk-before}
-use Rattle.gf2.specs.Plans.{run, PlacesBelow, extend, filledAfter, WellFormed, done, next, Accepted}
+use Rattle.gf2.specs.Plans.{run, PlacesBelow, extend, WellFormed, done, next, Accepted}
 use Rattle.gf2.specs.Selection.{Below}
 use Rattle.gf2.specs.Stripes.{Valid, runOnStripe, SameSymbols}
 use Rattle.gf2.specs.declared.Step.{Step}
@@ -29,7 +29,7 @@ use Rattle.refusals.specs.declared.Verdict.{Verdict}
 use Rattle.refusals.specs.declared.Verdict.the-variants.{Fine, Refused}
 use Rattle.refusals.proofs.OrderLaws.{fine-means-none-holds, none-holds-means-fine, refused-is-not-fine}
 use Rattle.plans.specs.Plans.{SheetStep, Plan, stepOf, stepsOf}
-use Rattle.plans.specs.Judgement.{lost, survives, headFaults, malformed, stepFaults, stepsVerdict, trueReadCount, lowestRow, endFaults, bodyVerdict, planVerdict}
+use Rattle.plans.specs.Judgement.{lost, survives, headFaults, malformed, stepFaults, stepsVerdict, trueReadCount, neverFilled, endsWrong, lowestWanted, endFaults, SetsWithin, judgement, bodyVerdict, planVerdict}
 use Rattle.plans.specs.Demand2.{HeadFits, Deserves}
 use Rattle.plans.proofs.StepLaws.{target-stepOf}
 
@@ -84,41 +84,119 @@ head-fine-if-fits code disk plan fits =
 abbrev pub EachFormed : ℕ → List SheetStep → Type 0
 EachFormed count steps = (s : SheetStep) → List·Memᴰ s steps → malformed count s ≡ false
 
-module _ (layout : Layout) (disk : ℕ) where
+module _ (count : ℕ) (wanted : ℕ → Bool) where
   -- A fine verdict on the steps means that each is well formed
-  each-formed-if-fine : (known : ℕ → Bool) (number : ℕ) (steps : List SheetStep) → stepsVerdict layout disk known number steps ≡ Fine
-      → EachFormed (symbolsOf layout) steps
+  each-formed-if-fine : (known : ℕ → Bool) (number : ℕ) (steps : List SheetStep) → stepsVerdict count wanted known number steps ≡ Fine
+      → EachFormed count steps
   unfolding stepsVerdict
   each-formed-if-fine known number (first ∷ steps) e s (List·Memᴰ·head same) =
-      let here = firstOf (stepFaults layout disk known number first) in
-      rw same (fine-means-none-holds Fine (stepFaults layout disk known number first) (both-fine here _ e .0) .1 .0)
+      let here = firstOf (stepFaults count wanted known number first) in
+      rw same (fine-means-none-holds Fine (stepFaults count wanted known number first) (both-fine here _ e .0) .1 .0)
   each-formed-if-fine known number (first ∷ steps) e s (List·Memᴰ·tail m) =
-      let here = firstOf (stepFaults layout disk known number first) in
+      let here = firstOf (stepFaults count wanted known number first) in
       each-formed-if-fine (extend known (first .place)) (suc number) steps (both-fine here _ e .1) s m
 
   -- and that the plan uses only surviving symbols or places already filled
-  wellFormed-if-fine : (known : ℕ → Bool) (number : ℕ) (steps : List SheetStep) → stepsVerdict layout disk known number steps ≡ Fine
-      → WellFormed (lost layout disk) known (map stepOf steps)
+  wellFormed-if-fine : (known : ℕ → Bool) (number : ℕ) (steps : List SheetStep) → stepsVerdict count wanted known number steps ≡ Fine
+      → WellFormed wanted known (map stepOf steps)
   unfolding stepsVerdict
   wellFormed-if-fine known number [] e = done
   wellFormed-if-fine known number (s ∷ steps) e =
-      let both = both-fine (firstOf (stepFaults layout disk known number s)) _ e in
-      let none = fine-means-none-holds Fine (stepFaults layout disk known number s) (both .0) .1 in
-      next (ap (lost layout disk) (target-stepOf s) ∙ not-false _ (none .1 .0)) (not-false _ (none .1 .1 .0))
-      (subst (λ (t : ℕ). WellFormed (lost layout disk) (extend known t) (map stepOf steps)) (sym (target-stepOf s))
+      let both = both-fine (firstOf (stepFaults count wanted known number s)) _ e in
+      let none = fine-means-none-holds Fine (stepFaults count wanted known number s) (both .0) .1 in
+      next (ap wanted (target-stepOf s) ∙ not-false _ (none .1 .0)) (not-false _ (none .1 .1 .0))
+      (subst (λ (t : ℕ). WellFormed wanted (extend known t) (map stepOf steps)) (sym (target-stepOf s))
       (wellFormed-if-fine (extend known (s .place)) (suc number) steps (both .1)))
 
   -- Steps that are well formed and use only what is known have a fine verdict
-  steps-fine-if-wellFormed : (known : ℕ → Bool) (number : ℕ) (steps : List SheetStep) → EachFormed (symbolsOf layout) steps
-      → WellFormed (lost layout disk) known (map stepOf steps) → stepsVerdict layout disk known number steps ≡ Fine
+  steps-fine-if-wellFormed : (known : ℕ → Bool) (number : ℕ) (steps : List SheetStep) → EachFormed count steps
+      → WellFormed wanted known (map stepOf steps) → stepsVerdict count wanted known number steps ≡ Fine
   unfolding stepsVerdict
   steps-fine-if-wellFormed known number [] formed uses = refl
   steps-fine-if-wellFormed known number (s ∷ steps) formed (next writes is-ready rest) =
-      let target-lost : not (lost layout disk (s .place)) ≡ false = ap not (ap (lost layout disk) (sym (target-stepOf s)) ∙ writes) in
+      let target-wanted : not (wanted (s .place)) ≡ false = ap not (ap wanted (sym (target-stepOf s)) ∙ writes) in
       fine-if-both
-      (none-holds-means-fine (stepFaults layout disk known number s) (formed s (List·Memᴰ·head refl), (target-lost, (ap not is-ready, tt))))
+      (none-holds-means-fine (stepFaults count wanted known number s) (formed s (List·Memᴰ·head refl), (target-wanted, (ap not is-ready, tt))))
       (steps-fine-if-wellFormed (extend known (s .place)) (suc number) steps (λ q m. formed q (List·Memᴰ·tail m))
-      (subst (λ (t : ℕ). WellFormed (lost layout disk) (extend known t) (map stepOf steps)) (target-stepOf s) rest))
+      (subst (λ (t : ℕ). WellFormed wanted (extend known t) (map stepOf steps)) (target-stepOf s) rest))
+
+-- ------------------------------------------------------------------
+-- The wanted symbols
+
+module _ (count : ℕ) (wanted : ℕ → Bool) (below : PlacesBelow count wanted) (test : ℕ → Bool) where
+  -- Where the search for the lowest finds none, the test holds at no wanted symbol
+  none-wanted-if-none-lowest : count ≤ lowestWanted count wanted test → (s : ℕ) → wanted s ≡ true → test s ≡ false
+  none-wanted-if-none-lowest behind s is-wanted =
+      let none = none-if-firstFrom-behind (λ t. wanted t && test t) count 0 s (omega arith) (omega arith) (omega (arith, below s is-wanted)) in
+      sym (ap (λ (c : Bool). c && test s) is-wanted) ∙ none
+
+  -- Where the test holds at no wanted symbol, the search finds none
+  none-lowest-if-none-wanted : ((s : ℕ) → wanted s ≡ true → test s ≡ false) → count ≤ lowestWanted count wanted test
+  none-lowest-if-none-wanted none = omega (arith, firstFrom-none (λ t. wanted t && test t) count 0 (λ s a b. none-here s (wanted s) refl))
+    where
+      none-here : (s : ℕ) (here : Bool) → wanted s ≡ here → (here && test s) ≡ false
+      none-here s true e = none s e
+      none-here s false e = refl
+
+-- ------------------------------------------------------------------
+-- The judgement by sets
+
+-- What a fine judgement says of the steps and of the stated count
+pub record RulesKept (rows : List ℕ) (count : ℕ) (survives wanted : ℕ → Bool) (steps : List SheetStep) (stated : ℕ) : Type 0 where
+  pub each-formed : EachFormed count steps
+  pub accepted : Accepted (take count rows) wanted survives wanted (map stepOf steps)
+  pub true-count : stated ≡ trueReadCount count survives (map stepOf steps)
+
+module _ (rows : List ℕ) (count : ℕ) (survives wanted : ℕ → Bool) (origin : ℕ) (sets : SetsWithin count survives wanted origin) (steps : List SheetStep) (stated : ℕ) where
+  -- Run on the rows of the symbols, the steps give each symbol what they give it run on all rows
+  run-on-symbols : WellFormed wanted survives (map stepOf steps) → (t : ℕ) → t < count
+      → getD (run (map stepOf steps) (take count rows)) t 0 ≡ getD (run (map stepOf steps) rows) t 0
+  run-on-symbols formed t h =
+      ap (λ (l : List ℕ). getD l t 0)
+      (run-take count (map stepOf steps) rows (wellFormed-names-below count (sets .wanted-below) formed (sets .survives-below)))
+      ∙ getD-take count (run (map stepOf steps) rows) t 0 h
+
+  -- A fine judgement means that every rule is kept
+  pub rules-kept-if-fine : judgement rows count survives wanted origin steps stated ≡ Fine → RulesKept rows count survives wanted steps stated
+  unfolding judgement
+  rules-kept-if-fine e =
+      let both = both-fine (stepsVerdict count wanted survives 0 steps) _ e in
+      let none = fine-means-none-holds Fine (endFaults rows count survives wanted origin (map stepOf steps) stated) (both .1) .1 in
+      let formed = wellFormed-if-fine count wanted survives 0 steps (both .0) in
+      record {
+        each-formed = each-formed-if-fine count wanted survives 0 steps (both .0);
+        accepted =
+            record {
+              well-formed = formed;
+              filled =
+                  λ t is-wanted.
+                  not-false _
+                  (none-wanted-if-none-lowest count wanted (sets .wanted-below) (neverFilled survives (map stepOf steps)) (ltb-false _ _ (none .0)) t is-wanted);
+              right =
+                  λ t is-wanted.
+                  run-on-symbols formed t (sets .wanted-below t is-wanted)
+                  ∙ eqb-true _ _
+                  (not-false _
+                  (none-wanted-if-none-lowest count wanted (sets .wanted-below) (endsWrong rows (map stepOf steps)) (ltb-false _ _ (none .1 .0)) t is-wanted))
+                  ∙ sym (getD-take count rows t 0 (sets .wanted-below t is-wanted));
+            };
+        true-count = eqb-true _ _ (not-false _ (none .1 .1 .0));
+      }
+
+  -- Where every rule is kept, the judgement is fine
+  pub fine-if-rules-kept : RulesKept rows count survives wanted steps stated → judgement rows count survives wanted origin steps stated ≡ Fine
+  unfolding judgement
+  fine-if-rules-kept kept =
+      let formed = kept .accepted .well-formed in
+      let each-filled = none-lowest-if-none-wanted count wanted (sets .wanted-below) (neverFilled survives (map stepOf steps))
+      (λ t is-wanted. ap not (kept .accepted .filled t is-wanted)) in
+      let each-right = none-lowest-if-none-wanted count wanted (sets .wanted-below) (endsWrong rows (map stepOf steps))
+      (λ t is-wanted.
+      same-passes
+      (sym (run-on-symbols formed t (sets .wanted-below t is-wanted)) ∙ kept .accepted .right t is-wanted ∙ getD-take count rows t 0 (sets .wanted-below t is-wanted))) in
+      fine-if-both (steps-fine-if-wellFormed count wanted survives 0 steps (kept .each-formed) formed)
+      (none-holds-means-fine (endFaults rows count survives wanted origin (map stepOf steps) stated)
+      (le-ltb _ _ each-filled, (le-ltb _ _ each-right, (same-passes (kept .true-count), tt))))
 
 -- ------------------------------------------------------------------
 -- The lost strip, row by row
@@ -130,6 +208,15 @@ lost-below layout disk s h = ltb-true s (symbolsOf layout) (and-left (ltb s (sym
 -- So are surviving ones
 pub survives-below : (layout : Layout) (disk : ℕ) → PlacesBelow (symbolsOf layout) (survives layout disk)
 survives-below layout disk s h = ltb-true s (symbolsOf layout) (and-left (ltb s (symbolsOf layout)) (not (onDisk layout disk s)) h)
+
+-- A lost symbol does not survive
+pub lost-means-not-surviving : (layout : Layout) (disk s : ℕ) → lost layout disk s ≡ true → survives layout disk s ≡ false
+lost-means-not-surviving layout disk s = by-tests (ltb s (symbolsOf layout)) (onDisk layout disk s)
+  where
+    by-tests : (in-array on : Bool) → (in-array && on) ≡ true → (in-array && not on) ≡ false
+    by-tests true true e = refl
+    by-tests true false e = absurd (true≢false (sym e))
+    by-tests false on e = refl
 
 -- Each symbol is lost, or survives and is never written
 pub lost-or-survives : (layout : Layout) (disk s : ℕ) → s < symbolsOf layout
@@ -164,23 +251,16 @@ module _ (layout : Layout) (disk : ℕ) (disk-below : disk < layout .disks) wher
       by-side (yes h) = (h, ltb-true s _ (sym (onDisk-above layout disk s h) ∙ on))
       by-side (no h) = absurd (true≢false (sym on ∙ onDisk-before layout disk s (omega arith)))
 
-  -- Where no row passes a test, no lost symbol does
-  none-lost-if-no-row : (test : ℕ → Bool) → heightOf layout disk ≤ lowestRow layout disk test → (s : ℕ) → lost layout disk s ≡ true → test s ≡ false
-  none-lost-if-no-row test behind s is-lost =
-      let strip = lost-in-strip s is-lost in
-      let place : firstSymbol layout disk + (s - firstSymbol layout disk) ≡ s = omega arith in
-      subst (λ (k : ℕ). test k ≡ false) place
-      (none-if-firstFrom-behind (λ row. test (firstSymbol layout disk + row)) (heightOf layout disk) 0 (s - firstSymbol layout disk)
-      (omega arith) (omega arith) (omega arith))
-
-  -- Where no lost symbol passes a test, no row does
-  no-row-if-none-lost : (test : ℕ → Bool) → ((s : ℕ) → lost layout disk s ≡ true → test s ≡ false) → heightOf layout disk ≤ lowestRow layout disk test
-  no-row-if-none-lost test none =
-      omega (
-        arith,
-        firstFrom-none (λ row. test (firstSymbol layout disk + row)) (heightOf layout disk) 0
-            (λ row a b. none (firstSymbol layout disk + row) (row-is-lost row (omega arith))),
-      )
+  -- The loss of a disk in sets: all lost symbols are wanted, and places are told from the disk's first symbol on
+  pub disk-sets : SetsWithin (symbolsOf layout) (survives layout disk) (lost layout disk) (firstSymbol layout disk)
+  disk-sets =
+      record {
+        survives-below = survives-below layout disk;
+        wanted-below = lost-below layout disk;
+        wanted-lost = λ s is-lost. lost-means-not-surviving layout disk s is-lost;
+        wanted-from = λ s is-lost. lost-in-strip s is-lost .0;
+        origin-to = omega (arith, strip-within layout disk disk-below);
+      }
 
 -- ------------------------------------------------------------------
 -- The judgement
@@ -211,63 +291,15 @@ module _ (code : Code) (within : WithinLimits code) (disk : ℕ) (disk-below : d
   pub matrix-survives-below : PlacesBelow (length (matrix code)) (survives (code .layout) disk)
   matrix-survives-below = subst (λ (n : ℕ). PlacesBelow n (survives (code .layout) disk)) (sym length-matrix) (survives-below (code .layout) disk)
 
-  module _ (steps : List Step) (formed : WellFormed (lost (code .layout) disk) (survives (code .layout) disk) steps) where
-    -- Run on the matrix, the steps give each symbol what they give it run on the 64 rows
-    run-on-matrix : (t : ℕ) → t < symbols code → getD (run steps (matrix code)) t 0 ≡ getD (run steps (code .rows)) t 0
-    run-on-matrix t h =
-        ap (λ (l : List ℕ). getD l t 0)
-        (run-take (symbols code) steps (code .rows) (wellFormed-names-below (symbols code) (lost-below (code .layout) disk) formed (survives-below (code .layout) disk)))
-        ∙ getD-take (symbols code) (run steps (code .rows)) t 0 h
-
-    -- No lost row ends wrong where the lost rows of the matrix end right
-    right-on-rows : ((t : ℕ) → lost (code .layout) disk t ≡ true → getD (run steps (matrix code)) t 0 ≡ getD (matrix code) t 0)
-        → (t : ℕ) → lost (code .layout) disk t ≡ true → getD (run steps (code .rows)) t 0 ≡ getD (code .rows) t 0
-    right-on-rows right t is-lost =
-        let h = lost-below (code .layout) disk t is-lost in
-        sym (run-on-matrix t h) ∙ right t is-lost ∙ getD-take (symbols code) (code .rows) t 0 h
-
-    -- Lost rows of the matrix end right where no lost row ends wrong
-    right-on-matrix : ((t : ℕ) → lost (code .layout) disk t ≡ true → getD (run steps (code .rows)) t 0 ≡ getD (code .rows) t 0)
-        → (t : ℕ) → lost (code .layout) disk t ≡ true → getD (run steps (matrix code)) t 0 ≡ getD (matrix code) t 0
-    right-on-matrix right t is-lost =
-        let h = lost-below (code .layout) disk t is-lost in
-        run-on-matrix t h ∙ right t is-lost ∙ sym (getD-take (symbols code) (code .rows) t 0 h)
-
   -- ------------------------------------------------------------------
   -- From the verdict to demand 2
 
   module _ (plan : Plan) where
-    -- What a fine verdict behind the head says
-    record BodyFine : Type 0 where
-      each-formed : EachFormed (symbols code) (plan .steps)
-      accepted : AcceptedFor code disk (stepsOf plan)
-      true-count : plan .read-count ≡ trueReadCount (code .layout) disk (stepsOf plan)
-
-    -- A fine verdict behind the head says all of that
-    body-fine : bodyVerdict code disk plan ≡ Fine → BodyFine
+    -- A fine verdict behind the head means that every rule is kept
+    body-fine : bodyVerdict code disk plan ≡ Fine
+        → RulesKept (code .rows) (symbols code) (survives (code .layout) disk) (lost (code .layout) disk) (plan .steps) (plan .read-count)
     unfolding bodyVerdict
-    body-fine e =
-        let both = both-fine (stepsVerdict (code .layout) disk (survives (code .layout) disk) 0 (plan .steps)) _ e in
-        let none = fine-means-none-holds Fine (endFaults code disk (stepsOf plan) (plan .read-count)) (both .1) .1 in
-        let formed = wellFormed-if-fine (code .layout) disk (survives (code .layout) disk) 0 (plan .steps) (both .0) in
-        record {
-          each-formed = each-formed-if-fine (code .layout) disk (survives (code .layout) disk) 0 (plan .steps) (both .0);
-          accepted =
-              record {
-                well-formed = formed;
-                filled =
-                    λ s is-lost.
-                    not-false _
-                    (none-lost-if-no-row (code .layout) disk disk-below (λ t. not (filledAfter (survives (code .layout) disk) (stepsOf plan) t)) (ltb-false _ _ (none .0)) s is-lost);
-                right =
-                    right-on-matrix (stepsOf plan) formed
-                    (λ t is-lost.
-                    eqb-true _ _
-                    (not-false _
-                    (none-lost-if-no-row (code .layout) disk disk-below (λ s. not (eqb (getD (run (stepsOf plan) (code .rows)) s 0) (getD (code .rows) s 0))) (ltb-false _ _ (none .1 .0)) t is-lost)));
-              };
-          true-count = eqb-true _ _ (not-false _ (none .1 .1 .0));
-        }
+    body-fine e = rules-kept-if-fine (code .rows) (symbols code) _ _ _ (disk-sets (code .layout) disk disk-below) (plan .steps) (plan .read-count) e
 
     -- An accepted plan keeps every rule of gf2's acceptance, for the code's matrix
     pub accepted-if-fine : planVerdict code disk plan ≡ Fine → AcceptedFor code disk (stepsOf plan)
@@ -276,7 +308,7 @@ module _ (code : Code) (within : WithinLimits code) (disk : ℕ) (disk-below : d
 
     -- A plan whose head fits, whose steps are formed, which gf2 accepts and whose stated count is true deserves acceptance
     pub deserves-if-rules-kept : HeadFits code disk plan → EachFormed (symbols code) (plan .steps) → AcceptedFor code disk (stepsOf plan)
-        → plan .read-count ≡ trueReadCount (code .layout) disk (stepsOf plan) → Deserves code disk plan (plan .read-count)
+        → plan .read-count ≡ trueReadCount (symbols code) (survives (code .layout) disk) (stepsOf plan) → Deserves code disk plan (plan .read-count)
     deserves-if-rules-kept head-fits each-formed accepted true-count =
         record {
           head-fits = head-fits;
@@ -319,22 +351,14 @@ module _ (code : Code) (within : WithinLimits code) (disk : ℕ) (disk-below : d
           matrix-lost-below matrix-survives-below 1 (code .data_symbols) (omega arith) (deserves .uses-known) matrix-lost-below (deserves .restores 1 (omega arith)))
           (deserves .restores 1 (omega arith))
 
-      -- Nothing is wrong at the end of such a plan
-      end-fine : firstOf (endFaults code disk (stepsOf plan) (plan .read-count)) ≡ Fine
-      end-fine =
-          let each-filled = no-row-if-none-lost (code .layout) disk disk-below (λ t. not (filledAfter (survives (code .layout) disk) (stepsOf plan) t))
-          (λ t is-lost. ap not (accepted-if-deserves .filled t is-lost)) in
-          let each-right = no-row-if-none-lost (code .layout) disk disk-below (λ s. not (eqb (getD (run (stepsOf plan) (code .rows)) s 0) (getD (code .rows) s 0)))
-          (λ t is-lost. same-passes (right-on-rows (stepsOf plan) (deserves .uses-known) (accepted-if-deserves .right) t is-lost)) in
-          let count-true = same-passes (deserves .stated-count ∙ sym (deserves .true-count)) in
-          none-holds-means-fine (endFaults code disk (stepsOf plan) (plan .read-count))
-          (le-ltb _ _ each-filled, (le-ltb _ _ each-right, (count-true, tt)))
-
       -- A plan that deserves acceptance has a fine verdict
       pub fine-if-deserves : planVerdict code disk plan ≡ Fine
       unfolding planVerdict bodyVerdict
       fine-if-deserves =
           fine-if-both (head-fine-if-fits code disk plan (deserves .head-fits))
-          (fine-if-both
-          (steps-fine-if-wellFormed (code .layout) disk (survives (code .layout) disk) 0 (plan .steps) (deserves .each-formed) (deserves .uses-known))
-          end-fine)
+          (fine-if-rules-kept (code .rows) (symbols code) _ _ _ (disk-sets (code .layout) disk disk-below) (plan .steps) (plan .read-count)
+          (record {
+            each-formed = deserves .each-formed;
+            accepted = accepted-if-deserves;
+            true-count = deserves .stated-count ∙ sym (deserves .true-count);
+          }))

@@ -9,9 +9,7 @@ use native.Mathlib.Omega.{arith}
 use lib.Dec.{eqb, leb, ltb}
 use lib.ListN.{getD, set, drop}
 use lib.Seq.{getD-drop, drop-drop}
-use borrow.Author.Tests.{not-false, leb-false, lt-ltb, eq-eqb, ne-eqb, eqb-true, eqb-false}
-use Rattle.codes.specs.Layouts.{symbolsOf, onDisk}
-use Rattle.codes.specs.declared.Layout.{Layout}
+use borrow.Author.Tests.{not-false, leb-false, eq-eqb, ne-eqb, eqb-true, eqb-false}
 use Rattle.gf2.specs.BitSets.{has, with}
 use Rattle.gf2.specs.Plans.{target, value, run, NamesBelow, extend, ready, filledAfter}
 use Rattle.gf2.specs.declared.Step.{Step}
@@ -23,7 +21,7 @@ use Rattle.refusals.specs.declared.Refusal.the-variants.{MalformedStep, TargetN
 use Rattle.refusals.specs.declared.Verdict.{Verdict}
 use Rattle.refusals.proofs.OrderLaws.{fine-means-none-holds, refused-is-not-fine}
 use Rattle.plans.specs.Plans.{SheetStep, stepOf, stepAt, sheetSteps}
-use Rattle.plans.specs.Judgement.{lost, malformed, stepFaults, readingOf, stepReading, stepsVerdict, reads, readByAny}
+use Rattle.plans.specs.Judgement.{malformed, stepFaults, readingOf, stepReading, stepsVerdict, reads, readByAny}
 use Rattle.plans.specs.Progress.{sourceOf, valueOf, verdictOf, Progressed}
 use Rattle.plans.specs.declared.steps.StepReading.the-variants as Readings
 use Rattle.refusals.specs.declared.Verdict.the-variants as Verdicts
@@ -90,33 +88,29 @@ source-below count (Add t s) below = below .1
 -- ------------------------------------------------------------------
 -- What the reading of a step answers
 
-module _ (layout : Layout) (disk : ℕ) (known : ℕ → Bool) (number : ℕ) (s : SheetStep) where
+module _ (count : ℕ) (wanted known : ℕ → Bool) (number : ℕ) (s : SheetStep) where
   -- A malformed step is refused by 17
-  pub reads-malformed : malformed (symbolsOf layout) s ≡ true
-      → stepReading layout disk known number s ≡ Readings.Refused (MalformedStep number)
+  pub reads-malformed : malformed count s ≡ true → stepReading count wanted known number s ≡ Readings.Refused (MalformedStep number)
   unfolding stepReading orIf
   reads-malformed bad = rw bad
 
-  -- A step that is well formed and whose target is off the disk is refused by 18
-  pub reads-target-not-lost : malformed (symbolsOf layout) s ≡ false → onDisk layout disk (s .place) ≡ false
-      → stepReading layout disk known number s ≡ Readings.Refused (TargetNotLost number)
+  -- A step that is well formed and whose target is not wanted is refused by 18
+  pub reads-not-wanted : malformed count s ≡ false → wanted (s .place) ≡ false
+      → stepReading count wanted known number s ≡ Readings.Refused (TargetNotLost number)
   unfolding stepReading orIf
-  reads-target-not-lost formed off =
-      rw (formed, lt-ltb (s .place) (symbolsOf layout) (formed-step (symbolsOf layout) s formed .place-below), off)
+  reads-not-wanted formed off = rw (formed, off)
 
-  -- A step on a lost place that uses an unfilled one is refused by 19
-  pub reads-unfilled : malformed (symbolsOf layout) s ≡ false → onDisk layout disk (s .place) ≡ true → ready (stepOf s) known ≡ false
-      → stepReading layout disk known number s ≡ Readings.Refused (UnfilledPlaceUsed number)
+  -- A step on a wanted place that uses an unfilled one is refused by 19
+  pub reads-unfilled : malformed count s ≡ false → wanted (s .place) ≡ true → ready (stepOf s) known ≡ false
+      → stepReading count wanted known number s ≡ Readings.Refused (UnfilledPlaceUsed number)
   unfolding stepReading orIf
-  reads-unfilled formed on unready =
-      rw (formed, lt-ltb (s .place) (symbolsOf layout) (formed-step (symbolsOf layout) s formed .place-below), on, unready)
+  reads-unfilled formed on unready = rw (formed, on, unready)
 
   -- Any other is decoded
-  pub reads-step : malformed (symbolsOf layout) s ≡ false → onDisk layout disk (s .place) ≡ true → ready (stepOf s) known ≡ true
-      → stepReading layout disk known number s ≡ Readings.Step (stepOf s)
+  pub reads-step : malformed count s ≡ false → wanted (s .place) ≡ true → ready (stepOf s) known ≡ true
+      → stepReading count wanted known number s ≡ Readings.Step (stepOf s)
   unfolding stepReading orIf
-  reads-step formed on is-ready =
-      rw (formed, lt-ltb (s .place) (symbolsOf layout) (formed-step (symbolsOf layout) s formed .place-below), on, is-ready)
+  reads-step formed on is-ready = rw (formed, on, is-ready)
 
 -- Three bytes of a sheet are the step that they begin
 pub bytes-are-step : (sheet : List ℕ) (at : ℕ) {kind place source : ℕ} → kind ≡ getD sheet at 0 → place ≡ getD sheet (at + 1) 0
@@ -148,50 +142,50 @@ step-of-reading Verdicts.Fine step p e = (refl, cc)
 step-of-reading (Verdicts.Refused refusal) step p e = absurd (let differ : _≡_ {A = ℕ} 0 1 = cc in omega arith)
 
 -- What a step that was read says of the sheet's
-pub record StepRead (layout : Layout) (disk : ℕ) (known : ℕ → Bool) (number : ℕ) (s : SheetStep) (p : Step) : Type 0 where
+pub record StepRead (count : ℕ) (wanted known : ℕ → Bool) (number : ℕ) (s : SheetStep) (p : Step) : Type 0 where
   pub is-step : p ≡ stepOf s
-  pub no-fault : firstOf (stepFaults layout disk known number s) ≡ Verdicts.Fine
-  pub formed : malformed (symbolsOf layout) s ≡ false
-  pub on-lost-place : lost layout disk (s .place) ≡ true
+  pub no-fault : firstOf (stepFaults count wanted known number s) ≡ Verdicts.Fine
+  pub formed : malformed count s ≡ false
+  pub on-wanted-place : wanted (s .place) ≡ true
   pub is-ready : ready p known ≡ true
 
 -- A reading that is a step says all of that
-pub step-read : (layout : Layout) (disk : ℕ) (known : ℕ → Bool) (number : ℕ) (s : SheetStep) (p : Step)
-    → stepReading layout disk known number s ≡ Readings.Step p → StepRead layout disk known number s p
+pub step-read : (count : ℕ) (wanted known : ℕ → Bool) (number : ℕ) (s : SheetStep) (p : Step)
+    → stepReading count wanted known number s ≡ Readings.Step p → StepRead count wanted known number s p
 unfolding stepReading
-step-read layout disk known number s p e =
-    let told = step-of-reading (firstOf (stepFaults layout disk known number s)) (stepOf s) p e in
-    let none = fine-means-none-holds Verdicts.Fine (stepFaults layout disk known number s) (told .0) .1 in
+step-read count wanted known number s p e =
+    let told = step-of-reading (firstOf (stepFaults count wanted known number s)) (stepOf s) p e in
+    let none = fine-means-none-holds Verdicts.Fine (stepFaults count wanted known number s) (told .0) .1 in
     record {
       is-step = told .1;
       no-fault = told .0;
       formed = none .0;
-      on-lost-place = not-false _ (none .1 .0);
+      on-wanted-place = not-false _ (none .1 .0);
       is-ready = rw (told .1) (not-false _ (none .1 .1 .0));
     }
 
 -- A step that was read names symbols of the array
-pub step-read-names-below : (layout : Layout) (disk : ℕ) (known : ℕ → Bool) (number : ℕ) (s : SheetStep) (p : Step) → symbolsOf layout ≤ 64
-    → stepReading layout disk known number s ≡ Readings.Step p → NamesBelow 64 p
-step-read-names-below layout disk known number s p fits e =
-    let told = step-read layout disk known number s p e in
-    subst (NamesBelow 64) (sym (told .is-step)) (stepOf-names-below (symbolsOf layout) 64 s fits (told .formed))
+pub step-read-names-below : (count : ℕ) (wanted known : ℕ → Bool) (number : ℕ) (s : SheetStep) (p : Step) → count ≤ 64
+    → stepReading count wanted known number s ≡ Readings.Step p → NamesBelow 64 p
+step-read-names-below count wanted known number s p fits e =
+    let told = step-read count wanted known number s p e in
+    subst (NamesBelow 64) (sym (told .is-step)) (stepOf-names-below count 64 s fits (told .formed))
 
 -- ------------------------------------------------------------------
 -- How far the steps have come
 
 -- The verdict, the run, the places filled and the places read of all steps are those of the steps that remain, from the state that is reached
-pub record Remaining (layout : Layout) (disk : ℕ) (rows₀ : List ℕ) (known₀ : ℕ) (all : List SheetStep)
+pub record Remaining (count : ℕ) (wanted : ℕ → Bool) (rows₀ : List ℕ) (known₀ : ℕ) (all : List SheetStep)
     (rows : List ℕ) (known sources number : ℕ) (rest : List SheetStep) : Type 0 where
-  pub judged : stepsVerdict layout disk (has known) number rest ≡ stepsVerdict layout disk (has known₀) 0 all
+  pub judged : stepsVerdict count wanted (has known) number rest ≡ stepsVerdict count wanted (has known₀) 0 all
   pub ran : run (map stepOf rest) rows ≡ run (map stepOf all) rows₀
   pub filled : filledAfter (has known) (map stepOf rest) ≡ filledAfter (has known₀) (map stepOf all)
-  pub read : (s : ℕ) → lost layout disk s ≡ false → (has sources s || readByAny s (map stepOf rest)) ≡ readByAny s (map stepOf all)
+  pub read : (s : ℕ) → wanted s ≡ false → (has sources s || readByAny s (map stepOf rest)) ≡ readByAny s (map stepOf all)
   pub sources-below : sources < 2 ^ 64
 
 -- Before the first step
-pub remaining-all : (layout : Layout) (disk : ℕ) (rows : List ℕ) (known : ℕ) (all : List SheetStep) → Remaining layout disk rows known all rows known 0 0 all
-remaining-all layout disk rows known all =
+pub remaining-all : (count : ℕ) (wanted : ℕ → Bool) (rows : List ℕ) (known : ℕ) (all : List SheetStep) → Remaining count wanted rows known all rows known 0 0 all
+remaining-all count wanted rows known all =
     record {
       judged = refl;
       ran = refl;
@@ -214,13 +208,13 @@ eqb-swap a b = by-test (eqb b a) refl
     by-test true e = eq-eqb a b (sym (eqb-true b a e))
     by-test false e = ne-eqb a b (λ same. eqb-false b a e (sym same))
 
--- The place that a step on a lost place reads is, of the symbols that are not lost, the one that it names as a source
-reads-source : (layout : Layout) (disk : ℕ) (p : Step) (s : ℕ) → lost layout disk (target p) ≡ true → lost layout disk s ≡ false
+-- The place that a step on a wanted place reads is, of the symbols that are not wanted, the one that it names as a source
+reads-source : (wanted : ℕ → Bool) (p : Step) (s : ℕ) → wanted (target p) ≡ true → wanted s ≡ false
     → eqb s (sourceOf p) ≡ reads s p
-reads-source layout disk (Clear t) s target-lost kept =
-    ne-eqb s t (λ same. true≢false (sym target-lost ∙ ap (lost layout disk) (sym same) ∙ kept))
-reads-source layout disk (Copy t source) s target-lost kept = eqb-swap s source
-reads-source layout disk (Add t source) s target-lost kept = eqb-swap s source
+reads-source wanted (Clear t) s target-wanted kept =
+    ne-eqb s t (λ same. true≢false (sym target-wanted ∙ ap wanted (sym same) ∙ kept))
+reads-source wanted (Copy t source) s target-wanted kept = eqb-swap s source
+reads-source wanted (Add t source) s target-wanted kept = eqb-swap s source
 
 -- The first of three alternatives may come second
 or-shift : (a b c : Bool) → (a || b || c) ≡ (b || (a || c))
@@ -229,18 +223,18 @@ or-shift true false c = refl
 or-shift false true c = refl
 or-shift false false c = refl
 
-module _ (layout : Layout) (disk : ℕ) (rows₀ : List ℕ) (known₀ : ℕ) (all : List SheetStep) (rows : List ℕ) (known sources number : ℕ)
-    (s : SheetStep) (rest : List SheetStep) (reached : Remaining layout disk rows₀ known₀ all rows known sources number (s ∷ rest)) where
+module _ (count : ℕ) (wanted : ℕ → Bool) (rows₀ : List ℕ) (known₀ : ℕ) (all : List SheetStep) (rows : List ℕ) (known sources number : ℕ)
+    (s : SheetStep) (rest : List SheetStep) (reached : Remaining count wanted rows₀ known₀ all rows known sources number (s ∷ rest)) where
   -- One step further
-  remaining-stepped : (p : Step) → stepReading layout disk (has known) number s ≡ Readings.Step p → symbolsOf layout ≤ 64
-      → Remaining layout disk rows₀ known₀ all (set rows (target p) (valueOf p (getD rows (target p) 0) (getD rows (sourceOf p) 0)))
+  remaining-stepped : (p : Step) → stepReading count wanted (has known) number s ≡ Readings.Step p → count ≤ 64
+      → Remaining count wanted rows₀ known₀ all (set rows (target p) (valueOf p (getD rows (target p) 0) (getD rows (sourceOf p) 0)))
       (with known (target p)) (with sources (sourceOf p)) (number + 1) rest
   unfolding stepsVerdict run filledAfter readByAny
   remaining-stepped p e fits =
       record {
         judged =
-            ap₂ (λ (k : ℕ → Bool) (i : ℕ). stepsVerdict layout disk k i rest) (has-with-extends known (target p) ∙ ap (extend (has known)) place) (add-one number)
-            ∙ sym (ap (λ (v : Verdict). ifFine v (stepsVerdict layout disk (extend (has known) (s .place)) (suc number) rest) v) (told .no-fault))
+            ap₂ (λ (k : ℕ → Bool) (i : ℕ). stepsVerdict count wanted k i rest) (has-with-extends known (target p) ∙ ap (extend (has known)) place) (add-one number)
+            ∙ sym (ap (λ (v : Verdict). ifFine v (stepsVerdict count wanted (extend (has known) (s .place)) (suc number) rest) v) (told .no-fault))
             ∙ reached .judged;
         ran =
             ap (λ (v : ℕ). run (map stepOf rest) (set rows (target p) v)) (sym (value-by-parts p rows))
@@ -254,34 +248,34 @@ module _ (layout : Layout) (disk : ℕ) (rows₀ : List ℕ) (known₀ : ℕ) (a
             ap (λ (c : Bool). c || readByAny k (map stepOf rest)) (has-with sources (sourceOf p) k)
             ∙ or-shift (eqb k (sourceOf p)) (has sources k) (readByAny k (map stepOf rest))
             ∙ ap (λ (c : Bool). has sources k || (c || readByAny k (map stepOf rest)))
-            (reads-source layout disk p k (ap (lost layout disk) place ∙ told .on-lost-place) kept ∙ ap (reads k) (told .is-step))
+            (reads-source wanted p k (ap wanted place ∙ told .on-wanted-place) kept ∙ ap (reads k) (told .is-step))
             ∙ reached .read k kept;
-        sources-below = with-below 64 sources (sourceOf p) (reached .sources-below) (source-below 64 p (step-read-names-below layout disk (has known) number s p fits e));
+        sources-below = with-below 64 sources (sourceOf p) (reached .sources-below) (source-below 64 p (step-read-names-below count wanted (has known) number s p fits e));
       }
     where
-      told : StepRead layout disk (has known) number s p
-      told = step-read layout disk (has known) number s p e
+      told : StepRead count wanted (has known) number s p
+      told = step-read count wanted (has known) number s p e
 
       place : target p ≡ s .place
       place = ap target (told .is-step) ∙ target-stepOf s
 
   -- One step further, by the numbers that the code has for it
-  pub remaining-next : (p : Step) → stepReading layout disk (has known) number s ≡ Readings.Step p → symbolsOf layout ≤ 64
+  pub remaining-next : (p : Step) → stepReading count wanted (has known) number s ≡ Readings.Step p → count ≤ 64
       → {t source new known' sources' : ℕ} → t ≡ target p → source ≡ sourceOf p → new ≡ valueOf p (getD rows t 0) (getD rows source 0)
       → known' ≡ with known t → sources' ≡ with sources source
-      → Remaining layout disk rows₀ known₀ all (set rows t new) known' sources' (number + 1) rest
+      → Remaining count wanted rows₀ known₀ all (set rows t new) known' sources' (number + 1) rest
   remaining-next p e fits t-is source-is new-is known-is sources-is =
       rw (known-is, sources-is, new-is, t-is, source-is) (remaining-stepped p e fits)
 
   -- The first faulty step ends the check
-  pub remaining-refused : (refusal : Refusal) → stepReading layout disk (has known) number s ≡ Readings.Refused refusal
-      → Progressed layout disk rows₀ known₀ all (record { verdict = Verdicts.Refused refusal; rows = rows; known = known; sources = sources })
+  pub remaining-refused : (refusal : Refusal) → stepReading count wanted (has known) number s ≡ Readings.Refused refusal
+      → Progressed count wanted rows₀ known₀ all (record { verdict = Verdicts.Refused refusal; rows = rows; known = known; sources = sources })
   unfolding stepsVerdict stepReading
   remaining-refused refusal e =
-      let here = firstOf (stepFaults layout disk (has known) number s) in
+      let here = firstOf (stepFaults count wanted (has known) number s) in
       let refused : here ≡ Verdicts.Refused refusal = sym (verdictOf-readingOf here (stepOf s)) ∙ ap verdictOf e in
       record {
-        judged = sym (ap (λ (v : Verdict). ifFine v (stepsVerdict layout disk (extend (has known) (s .place)) (suc number) rest) v) refused) ∙ reached .judged;
+        judged = sym (ap (λ (v : Verdict). ifFine v (stepsVerdict count wanted (extend (has known) (s .place)) (suc number) rest) v) refused) ∙ reached .judged;
         ran = λ fine. absurd (refused-is-not-fine fine);
         filled = λ fine. absurd (refused-is-not-fine fine);
         read = λ fine. absurd (refused-is-not-fine fine);
@@ -289,11 +283,11 @@ module _ (layout : Layout) (disk : ℕ) (rows₀ : List ℕ) (known₀ : ℕ) (a
       }
 
 -- Behind the last step
-pub remaining-none : (layout : Layout) (disk : ℕ) (rows₀ : List ℕ) (known₀ : ℕ) (all : List SheetStep) (rows : List ℕ) (known sources number : ℕ)
-    → Remaining layout disk rows₀ known₀ all rows known sources number []
-    → Progressed layout disk rows₀ known₀ all (record { verdict = Verdicts.Fine; rows = rows; known = known; sources = sources })
+pub remaining-none : (count : ℕ) (wanted : ℕ → Bool) (rows₀ : List ℕ) (known₀ : ℕ) (all : List SheetStep) (rows : List ℕ) (known sources number : ℕ)
+    → Remaining count wanted rows₀ known₀ all rows known sources number []
+    → Progressed count wanted rows₀ known₀ all (record { verdict = Verdicts.Fine; rows = rows; known = known; sources = sources })
 unfolding stepsVerdict run filledAfter readByAny
-remaining-none layout disk rows₀ known₀ all rows known sources number reached =
+remaining-none count wanted rows₀ known₀ all rows known sources number reached =
     record {
       judged = reached .judged;
       ran = λ fine. reached .ran;

@@ -36,7 +36,7 @@ pub record Deserves (code : Code) (disk : ℕ) (plan : Plan) (count : ℕ) : Typ
   pub restores : (L : ℕ) → 1 ≤ L → RestoresStripes L (code .data_symbols) (matrix code) (survives (code .layout) disk) (lost (code .layout) disk) (stepsOf plan)
   -- the stated count is the number of distinct surviving symbols that any copy or add names
   pub stated-count : plan .read-count ≡ count
-  pub true-count : trueReadCount (code .layout) disk (stepsOf plan) ≡ count
+  pub true-count : trueReadCount (symbols code) (survives (code .layout) disk) (stepsOf plan) ≡ count
 
 -- What demand 2 asks of the sheets: the code sheet and the disk are good, and the plan sheet's length fits
 pub record DeservesAcceptance (codeSheet : List ℕ) (disk : ℕ) (planSheet : List ℕ) (count : ℕ) : Type 0 where

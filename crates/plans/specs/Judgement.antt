@@ -1,16 +1,17 @@
 -- The judgement of a plan with any number of steps (document 01, "When the desk says no" and "How tight the answers are"):
 -- 13 for the first count, 14, 15, 16; then steps in order, in each 17, 18, 19; then 20 over all rows, 21 over all rows, 22.
-use mathlib.Core.Bool.{Bool, false, cond, not, _&&_, _||_}
-use mathlib.Core.List.{List, [], _∷_}
-use Prim.Native.Nat.{ℕ, zero, suc, _+_, _≤_, _<_}
+use mathlib.Core.Path.{_≡_}
+use mathlib.Core.Bool.{Bool, true, false, cond, not, _&&_, _||_}
+use mathlib.Core.List.{List, [], _∷_, map}
+use Prim.Native.Nat.{ℕ, zero, suc, _+_, _-_, _≤_, _<_}
 use lib.Dec.{eqb, leb, ltb}
 use lib.ListN.{getD}
-use Rattle.plans.specs.Plans.{SheetStep, Plan, stepOf, stepsOf}
-use Rattle.codes.specs.Layouts.{symbolsOf, firstSymbol, heightOf, onDisk}
+use Rattle.plans.specs.Plans.{SheetStep, Plan, stepOf}
+use Rattle.codes.specs.Layouts.{symbolsOf, firstSymbol, onDisk}
 use Rattle.codes.specs.declared.Layout.{Layout}
 use Rattle.codes.specs.declared.Code.{Code}
 use Rattle.gf2.specs.Lists.{firstFrom}
-use Rattle.gf2.specs.Plans.{run, extend, ready, filledAfter}
+use Rattle.gf2.specs.Plans.{run, PlacesBelow, extend, ready, filledAfter}
 use Rattle.gf2.specs.declared.Step.{Step}
 use Rattle.gf2.specs.declared.Step.the-variants.{Clear, Copy, Add}
 use Rattle.refusals.specs.Orders.{Fault, _gets_, firstOf, ifFine}
@@ -60,11 +61,11 @@ abbrev pub malformed : ℕ → SheetStep → Bool
 malformed count s =
     ltb 2 (s .kind) || leb count (s .place) || leb count (s .source) || (eqb (s .kind) 0 && not (eqb (s .source) 0))
 
--- In each step 17, 18 (target off the failed disk), 19 (an unfilled place is used)
-abbrev pub stepFaults : Layout → ℕ → (ℕ → Bool) → ℕ → SheetStep → List Fault
-stepFaults layout disk known number s =
-    (malformed (symbolsOf layout) s gets MalformedStep number)
-    ∷ (not (lost layout disk (s .place)) gets TargetNotLost number)
+-- In each step 17, 18 (a target that isn't wanted), 19 (an unfilled place is used)
+abbrev pub stepFaults : ℕ → (ℕ → Bool) → (ℕ → Bool) → ℕ → SheetStep → List Fault
+stepFaults count wanted known number s =
+    (malformed count s gets MalformedStep number)
+    ∷ (not (wanted (s .place)) gets TargetNotLost number)
     ∷ (not (ready (stepOf s) known) gets UnfilledPlaceUsed number)
     ∷ []
 
@@ -73,15 +74,15 @@ abbrev pub readingOf : Verdict → Step → StepReading
 readingOf Verdicts.Fine step = Readings.Step step
 readingOf (Verdicts.Refused refusal) step = Readings.Refused refusal
 
-unfoldable pub stepReading : Layout → ℕ → (ℕ → Bool) → ℕ → SheetStep → StepReading
-stepReading layout disk known number s = readingOf (firstOf (stepFaults layout disk known number s)) (stepOf s)
+unfoldable pub stepReading : ℕ → (ℕ → Bool) → (ℕ → Bool) → ℕ → SheetStep → StepReading
+stepReading count wanted known number s = readingOf (firstOf (stepFaults count wanted known number s)) (stepOf s)
 
 -- Steps in order; the first faulty step ends the check, and its number is the place
-unfoldable pub stepsVerdict : Layout → ℕ → (ℕ → Bool) → ℕ → List SheetStep → Verdict
-stepsVerdict layout disk known number [] = Verdicts.Fine
-stepsVerdict layout disk known number (s ∷ steps) =
-    let here = firstOf (stepFaults layout disk known number s) in
-    ifFine here (stepsVerdict layout disk (extend known (s .place)) (suc number) steps) here
+unfoldable pub stepsVerdict : ℕ → (ℕ → Bool) → (ℕ → Bool) → ℕ → List SheetStep → Verdict
+stepsVerdict count wanted known number [] = Verdicts.Fine
+stepsVerdict count wanted known number (s ∷ steps) =
+    let here = firstOf (stepFaults count wanted known number s) in
+    ifFine here (stepsVerdict count wanted (extend known (s .place)) (suc number) steps) here
 
 -- ------------------------------------------------------------------
 -- The end
@@ -103,42 +104,56 @@ howMany zero test = 0
 howMany (suc bound) test = cond (test bound) 1 0 + howMany bound test
 
 -- The true read count: the distinct surviving symbols named as a source by any copy or add
-abbrev pub trueReadCount : Layout → ℕ → List Step → ℕ
-trueReadCount layout disk steps = howMany (symbolsOf layout) (λ s. survives layout disk s && readByAny s steps)
+abbrev pub trueReadCount : ℕ → (ℕ → Bool) → List Step → ℕ
+trueReadCount count survives steps = howMany count (λ s. survives s && readByAny s steps)
 
--- The lowest row of the disk at which a test holds; the disk's height where there is none
-abbrev pub lowestRow : Layout → ℕ → (ℕ → Bool) → ℕ
-lowestRow layout disk test = firstFrom (λ row. test (firstSymbol layout disk + row)) 0 (heightOf layout disk)
+-- A place that is never filled
+abbrev pub neverFilled : (ℕ → Bool) → List Step → ℕ → Bool
+neverFilled survives steps s = not (filledAfter survives steps s)
 
--- A lost place never filled
-abbrev pub unfilledRow : Layout → ℕ → List Step → ℕ
-unfilledRow layout disk steps = lowestRow layout disk (λ s. not (filledAfter (survives layout disk) steps s))
+-- A place that ends wrong: run on the code's rows, the steps don't give the symbol's own row
+abbrev pub endsWrong : List ℕ → List Step → ℕ → Bool
+endsWrong rows steps s = not (eqb (getD (run steps rows) s 0) (getD rows s 0))
 
--- A lost place that ends wrong: run on the code's rows, the steps don't give the symbol's own row
-abbrev pub wrongRow : Code → ℕ → List Step → ℕ
-wrongRow code disk steps = lowestRow (code .layout) disk (λ s. not (eqb (getD (run steps (code .rows)) s 0) (getD (code .rows) s 0)))
+-- The lowest wanted symbol at which a test holds; the number of symbols where there is none
+abbrev pub lowestWanted : ℕ → (ℕ → Bool) → (ℕ → Bool) → ℕ
+lowestWanted count wanted test = firstFrom (λ s. wanted s && test s) 0 count
 
--- 20 over all rows, 21 over all rows, 22, for a disk of so many rows
-abbrev pub endOrder : ℕ → ℕ → ℕ → ℕ → ℕ → List Fault
-endOrder height unfilled wrong stated trueCount =
-    (ltb unfilled height gets NeverFilled unfilled)
-    ∷ (ltb wrong height gets EndsWrong wrong)
+-- 20 over all wanted symbols, 21 over all of them, 22. A symbol's place counts from the origin
+abbrev pub endOrder : ℕ → ℕ → ℕ → ℕ → ℕ → ℕ → List Fault
+endOrder count origin unfilled wrong stated trueCount =
+    (ltb unfilled count gets NeverFilled (unfilled - origin))
+    ∷ (ltb wrong count gets EndsWrong (wrong - origin))
     ∷ (not (eqb stated trueCount) gets WrongReadCount trueCount)
     ∷ []
 
-abbrev pub endFaults : Code → ℕ → List Step → ℕ → List Fault
-endFaults code disk steps stated =
-    let layout = code .layout in
-    endOrder (heightOf layout disk) (unfilledRow layout disk steps) (wrongRow code disk steps) stated (trueReadCount layout disk steps)
+abbrev pub endFaults : List ℕ → ℕ → (ℕ → Bool) → (ℕ → Bool) → ℕ → List Step → ℕ → List Fault
+endFaults rows count survives wanted origin steps stated =
+    endOrder count origin (lowestWanted count wanted (neverFilled survives steps)) (lowestWanted count wanted (endsWrong rows steps)) stated
+    (trueReadCount count survives steps)
 
 -- ------------------------------------------------------------------
 -- The judgement
 
--- Behind the head: the steps, then the end
+-- The sets that a plan is judged by: both hold symbols of the array, no symbol is in both, and no wanted one lies before the origin
+pub record SetsWithin (count : ℕ) (survives wanted : ℕ → Bool) (origin : ℕ) : Type 0 where
+  pub survives-below : PlacesBelow count survives
+  pub wanted-below : PlacesBelow count wanted
+  pub wanted-lost : (s : ℕ) → wanted s ≡ true → survives s ≡ false
+  pub wanted-from : (s : ℕ) → wanted s ≡ true → origin ≤ s
+  pub origin-to : origin ≤ count
+
+-- What follows the head: the steps, then the end. Of `count` symbols some survive and some are wanted
+unfoldable pub judgement : List ℕ → ℕ → (ℕ → Bool) → (ℕ → Bool) → ℕ → List SheetStep → ℕ → Verdict
+judgement rows count survives wanted origin steps stated =
+    let ran = stepsVerdict count wanted survives 0 steps in
+    ifFine ran (firstOf (endFaults rows count survives wanted origin (map stepOf steps) stated)) ran
+
+-- All lost symbols are wanted, and their places are the rows of the disk
 unfoldable pub bodyVerdict : Code → ℕ → Plan → Verdict
 bodyVerdict code disk plan =
-    let steps = stepsVerdict (code .layout) disk (survives (code .layout) disk) 0 (plan .steps) in
-    ifFine steps (firstOf (endFaults code disk (stepsOf plan) (plan .read-count))) steps
+    let layout = code .layout in
+    judgement (code .rows) (symbolsOf layout) (survives layout disk) (lost layout disk) (firstSymbol layout disk) (plan .steps) (plan .read-count)
 
 -- Every rule of the check, the sheet's length and the step limit left aside
 unfoldable pub planVerdict : Code → ℕ → Plan → Verdict

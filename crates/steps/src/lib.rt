@@ -5,9 +5,8 @@ ghost use lib.ListN.{drop};
 ghost use Rattle.gf2.specs.BitSets.{has};
 ghost use Rattle.gf2.specs.Plans.{target, ready, NamesBelow};
 ghost use Rattle.plans.specs.Plans.{stepOf, stepAt, sheetSteps};
-ghost use Rattle.plans.specs.Judgement.{DiskWithin, malformed, stepReading};
+ghost use Rattle.plans.specs.Judgement.{malformed, stepReading};
 ghost use Rattle.plans.specs.Progress.{sourceOf, valueOf, verdictOf, Progressed};
-use codes::Layout;
 use gf2::BitSet;
 use gf2::Step;
 use gf2::has;
@@ -66,17 +65,17 @@ fn judge_step(
     place: usize,
     source: usize,
     number: usize,
-    layout: Layout,
-    disk: usize,
+    symbols: usize,
+    wanted: BitSet,
     known: BitSet,
 ) -> StepReading
-    requires { ⌜ DiskWithin layout disk ⌝ }
-    ensures { λ r. ⌜ r ≡ stepReading layout disk (has known) number (record { kind = kind; place = place; source = source }) ⌝ }
+    requires { ⌜ symbols ≤ 64 ⌝ }
+    ensures { λ r. ⌜ r ≡ stepReading symbols (has wanted) (has known) number (record { kind = kind; place = place; source = source }) ⌝ }
 {
-    if malformed(kind, place, source, layout.symbols()) {
+    if malformed(kind, place, source, symbols) {
         return StepReading::Refused(Refusal::MalformedStep { step: number });
     }
-    if !layout.on_disk(disk, place) {
+    if !has(wanted, place) {
         return StepReading::Refused(Refusal::TargetNotLost { step: number });
     }
     let step = decoded(kind, place, source);
@@ -87,9 +86,15 @@ fn judge_step(
 }
 
 // Step `number` of the sheet.
-fn read_step(plan: &[u8], number: usize, layout: Layout, disk: usize, known: BitSet) -> StepReading
-    requires { ⌜ DiskWithin layout disk × (number < 1024) ⌝ }
-    ensures { λ r. ⌜ r ≡ stepReading layout disk (has known) number (stepAt (drop (9 + 3 * number) (now (plan .entry)))) ⌝ }
+fn read_step(
+    plan: &[u8],
+    number: usize,
+    symbols: usize,
+    wanted: BitSet,
+    known: BitSet,
+) -> StepReading
+    requires { ⌜ (symbols ≤ 64) × (number < 1024) ⌝ }
+    ensures { λ r. ⌜ r ≡ stepReading symbols (has wanted) (has known) number (stepAt (drop (9 + 3 * number) (now (plan .entry)))) ⌝ }
 {
     let at = 9 + 3 * number;
     judge_step(
@@ -97,8 +102,8 @@ fn read_step(plan: &[u8], number: usize, layout: Layout, disk: usize, known: Bit
         byte_at(plan, at + 1),
         byte_at(plan, at + 2),
         number,
-        layout,
-        disk,
+        symbols,
+        wanted,
         known,
     )
 }
@@ -155,21 +160,21 @@ fn value_of(step: Step, old: BitSet, source: BitSet) -> BitSet
 // Runs the steps on the rows, each read against the places known by then. The first faulty step ends the run.
 pub fn run_steps(
     code_rows: [BitSet; 64],
-    layout: Layout,
-    disk: usize,
+    symbols: usize,
     survivors: BitSet,
+    wanted: BitSet,
     plan: &[u8],
     count: usize,
 ) -> Progress
-    requires { ⌜ DiskWithin layout disk × (count ≤ 1024) ⌝ }
-    ensures { λ r. ⌜ Progressed layout disk «code_rows» survivors (sheetSteps count (drop 9 (now (plan .entry)))) r ⌝ }
+    requires { ⌜ (symbols ≤ 64) × (count ≤ 1024) ⌝ }
+    ensures { λ r. ⌜ Progressed symbols (has wanted) «code_rows» survivors (sheetSteps count (drop 9 (now (plan .entry)))) r ⌝ }
 {
     let mut rows = code_rows;
     let mut known = survivors;
     let mut sources = 0;
     let mut number = 0;
     while number < count {
-        let reading = read_step(plan, number, layout, disk, known);
+        let reading = read_step(plan, number, symbols, wanted, known);
         let StepReading::Step(step) = reading else {
             let verdict = verdict_of(reading);
             return Progress {

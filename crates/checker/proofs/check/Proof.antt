@@ -16,8 +16,8 @@ enum-known-head c = c .match .keys1
 enum-told : tie.Need-enum-told
 enum-told c = c .match .keys2
 
-judge-requires : tie.Need-judge-requires
-judge-requires c κs =
+judge-plan-requires : tie.Need-judge-plan-requires
+judge-plan-requires c κs =
     let args = c .before .before .before .before .before .before .before .before .args in
     let read = c .before .before .before .before .before .read-code in
     let fits = fits-if-fine (read .result .verdict) (read .result .code .layout) (read .result .code .data_symbols) (args .disk) (args .plan .now)
@@ -29,7 +29,7 @@ returns c =
     let args = c .before .before .before .before .before .before .before .before .before .args in
     let read = c .before .before .before .before .before .before .read-code in
     promised-if-fine (args .sheet .now) (args .disk) (args .plan .now) (read .result) (read .ensures .0) (read .ensures .1)
-    (c .before .before .before .head-test .ensures) (c .before .enum-told .given .1) (c .judge .ensures)
+    (c .before .before .before .head-test .ensures) (c .before .enum-told .given .1) (c .judge-plan .ensures)
 
 returns-2 : tie.Need-returns-2
 returns-2 c =
@@ -46,6 +46,6 @@ check-spec =
     head-test-requires
     enum-known-head
     enum-told
-    judge-requires
+    judge-plan-requires
     returns
     returns-2)

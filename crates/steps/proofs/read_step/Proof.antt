@@ -36,7 +36,7 @@ returns : tie.Need-returns
 returns c =
     let args = c .before .before .before .before .before .args in
     c .judge-step .ensures
-    ∙ ap (stepReading (args .layout) (args .disk) (has (args .known)) (args .number))
+    ∙ ap (stepReading (args .symbols) (has (args .wanted)) (has (args .known)) (args .number))
     (bytes-are-step (args .plan .now) (9 + 3 * args .number) (c .before .before .before .byte-at .ensures .0) (c .before .before .byte-at2 .ensures .0) (c .before .byte-at3 .ensures .0))
 
 pub read-step-spec : {M : Type 1} → statement M

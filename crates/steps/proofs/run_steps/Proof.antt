@@ -1,4 +1,3 @@
-use Rattle.gf2.specs.BitSets.{has}
 -- `steps::run_steps` meets its contract. The invariant: the verdict, the run, the places filled and the places read of all steps are those of
 -- the steps that remain, from the state that is reached. The measure is the number of steps that remain. Assumes nothing.
 use mathlib.Core.Path.{_≡_, sym, _∙_, subst}
@@ -6,6 +5,7 @@ use Prim.Native.Nat.{_+_, _-_, _*_, _≤_, _<_}
 use native.Mathlib.Nat.{sub-zero}
 use native.Mathlib.Omega.{arith}
 use lib.ListN.{drop}
+use Rattle.gf2.specs.BitSets.{has}
 use Rattle.gf2.specs.Plans.{NamesBelow}
 use Rattle.plans.specs.Plans.{stepAt, sheetSteps}
 use Rattle.plans.proofs.StepLaws.{Remaining, remaining-all, remaining-next, remaining-refused, remaining-none, sheetSteps-next, step-read-names-below, source-below}
@@ -14,16 +14,16 @@ use Rattle.steps.proofs.run_steps.Statement.{statement}
 use Rattle.steps.proofs.run_steps.Tie as tie
 
 abbrev Inv-loop : tie.InvT-loop
-Inv-loop layout disk survivors plan count rows₀ known₀ sources₀ number₀ rows known sources number =
+Inv-loop symbols survivors wanted plan count rows₀ known₀ sources₀ number₀ rows known sources number =
     (number ≤ count)
-    × Remaining layout disk rows₀ known₀ (sheetSteps count (drop 9 plan)) rows known sources number
+    × Remaining symbols (has wanted) rows₀ known₀ (sheetSteps count (drop 9 plan)) rows known sources number
     (sheetSteps (count - number) (drop (9 + 3 * number) plan))
 
 abbrev μ-loop : tie.MeasureT-loop
-μ-loop layout disk survivors plan count rows₀ known₀ sources₀ number₀ rows known sources number = count - number
+μ-loop symbols survivors wanted plan count rows₀ known₀ sources₀ number₀ rows known sources number = count - number
 
 loop-holds : tie.Need-loop-holds Inv-loop μ-loop
-loop-holds c = (omega arith, rw sub-zero (remaining-all (c .before .args .layout) (c .before .args .disk) (c .before .args .code-rows) (c .before .args .survivors) (sheetSteps (c .before .args .count) (drop 9 (c .before .args .plan .now)))))
+loop-holds c = (omega arith, rw sub-zero (remaining-all (c .before .args .symbols) (has (c .before .args .wanted)) (c .before .args .code-rows) (c .before .args .survivors) (sheetSteps (c .before .args .count) (drop 9 (c .before .args .plan .now)))))
 
 read-step-requires : tie.Need-read-step-requires Inv-loop μ-loop
 read-step-requires c κs = (c .before .before .before .pre .0, omega arith)
@@ -44,9 +44,9 @@ returns c =
     let step = stepAt (drop (9 + 3 * loop .number) (args .plan .now)) in
     let rest = sheetSteps (args .count - (loop .number + 1)) (drop (9 + 3 * (loop .number + 1)) (args .plan .now)) in
     let all = sheetSteps (args .count) (drop 9 (args .plan .now)) in
-    let reached = subst (Remaining (args .layout) (args .disk) (args .code-rows) (args .survivors) all (loop .rows) (loop .known) (loop .sources) (loop .number)) (sheetSteps-next (args .plan .now) (args .count) (loop .number) (c .before .before .before .before .loop-test .taken)) (loop .inv .1) in
+    let reached = subst (Remaining (args .symbols) (has (args .wanted)) (args .code-rows) (args .survivors) all (loop .rows) (loop .known) (loop .sources) (loop .number)) (sheetSteps-next (args .plan .now) (args .count) (loop .number) (c .before .before .before .before .loop-test .taken)) (loop .inv .1) in
     rw (c .verdict-of .ensures, c .before .enum-told .given .1)
-    (remaining-refused (args .layout) (args .disk) (args .code-rows) (args .survivors) all (loop .rows) (loop .known) (loop .sources) (loop .number) step rest reached _
+    (remaining-refused (args .symbols) (has (args .wanted)) (args .code-rows) (args .survivors) all (loop .rows) (loop .known) (loop .sources) (loop .number) step rest reached _
     (sym (c .before .before .before .read-step .ensures) ∙ c .before .enum-told .given .1))
 
 -- The step that was read names symbols of the array
@@ -54,8 +54,8 @@ named : (c : tie.After-reading Inv-loop μ-loop) → NamesBelow 64 (c .reading .
 named c =
     let args = c .before .before .before .before .before .before .args in
     let loop = c .before .before .before .before .loop in
-    step-read-names-below (args .layout) (args .disk) (has (loop .known)) (loop .number) (stepAt (drop (9 + 3 * loop .number) (args .plan .now))) _
-    (c .before .before .before .before .before .before .pre .0 .symbols-to) (sym (c .before .before .read-step .ensures) ∙ c .reading .given .1)
+    step-read-names-below (args .symbols) (has (args .wanted)) (has (loop .known)) (loop .number) (stepAt (drop (9 + 3 * loop .number) (args .plan .now))) _
+    (c .before .before .before .before .before .before .pre .0) (sym (c .before .before .read-step .ensures) ∙ c .reading .given .1)
 
 -- So its target is a row
 target-in-array : (c : tie.After-target-of Inv-loop μ-loop) → c .target-of .result < 64
@@ -111,10 +111,10 @@ loop-again c =
     let step = stepAt (drop (9 + 3 * loop .number) (args .plan .now)) in
     let rest = sheetSteps (args .count - (loop .number + 1)) (drop (9 + 3 * (loop .number + 1)) (args .plan .now)) in
     let all = sheetSteps (args .count) (drop 9 (args .plan .now)) in
-    let reached = subst (Remaining (args .layout) (args .disk) (args .code-rows) (args .survivors) all (loop .rows) (loop .known) (loop .sources) (loop .number)) (sheetSteps-next (args .plan .now) (args .count) (loop .number) (c .before .before .before .before .before .before .before .before .before .loop-test .taken)) (loop .inv .1) in (
+    let reached = subst (Remaining (args .symbols) (has (args .wanted)) (args .code-rows) (args .survivors) all (loop .rows) (loop .known) (loop .sources) (loop .number)) (sheetSteps-next (args .plan .now) (args .count) (loop .number) (c .before .before .before .before .before .before .before .before .before .loop-test .taken)) (loop .inv .1) in (
       omega arith,
-      remaining-next (args .layout) (args .disk) (args .code-rows) (args .survivors) all (loop .rows) (loop .known) (loop .sources) (loop .number) step rest reached _
-          (sym (c .before .before .before .before .before .before .before .before .read-step .ensures) ∙ c .before .before .before .before .before .before .reading .given .1) (c .before .before .before .before .before .before .before .before .before .before .before .before .pre .0 .symbols-to)
+      remaining-next (args .symbols) (has (args .wanted)) (args .code-rows) (args .survivors) all (loop .rows) (loop .known) (loop .sources) (loop .number) step rest reached _
+          (sym (c .before .before .before .before .before .before .before .before .read-step .ensures) ∙ c .before .before .before .before .before .before .reading .given .1) (c .before .before .before .before .before .before .before .before .before .before .before .before .pre .0)
           (c .before .before .before .before .target-of .ensures) (c .before .before .before .source-of .ensures) (c .before .before .value-of .ensures) (c .before .with .ensures) (c .with2 .ensures),
     )
 
@@ -124,7 +124,7 @@ returns-2 c =
     let args = c .before .before .before .args in
     let loop = c .before .loop in
     let none : args .count - loop .number ≡ 0 = omega arith in
-    remaining-none (args .layout) (args .disk) (args .code-rows) (args .survivors) (sheetSteps (args .count) (drop 9 (args .plan .now))) (loop .rows) (loop .known) (loop .sources) (loop .number)
+    remaining-none (args .symbols) (has (args .wanted)) (args .code-rows) (args .survivors) (sheetSteps (args .count) (drop 9 (args .plan .now))) (loop .rows) (loop .known) (loop .sources) (loop .number)
     (rw none at (loop .inv .1))
 
 pub run-steps-spec : {M : Type 1} → statement M
