@@ -28,7 +28,7 @@ use Rattle.refusals.specs.Orders.{firstOf, ifFine}
 use Rattle.refusals.specs.declared.Verdict.{Verdict}
 use Rattle.refusals.specs.declared.Verdict.the-variants.{Fine, Refused}
 use Rattle.refusals.proofs.OrderLaws.{fine-means-none-holds, none-holds-means-fine, refused-is-not-fine}
-use Rattle.plans.specs.Plans.{SheetStep, Plan, stepOf, stepsOf}
+use Rattle.plans.specs.Plans.{SheetStep, PlanHead, Plan, stepOf, stepsOf}
 use Rattle.plans.specs.Judgement.{lost, survives, headFaults, malformed, stepFaults, stepsVerdict, trueReadCount, neverFilled, endsWrong, lowestWanted, endFaults, SetsWithin, judgement, bodyVerdict, planVerdict}
 use Rattle.plans.specs.Demand2.{HeadFits, Deserves}
 use Rattle.plans.proofs.StepLaws.{target-stepOf}
@@ -53,9 +53,9 @@ same-passes {a} {b} same = ap not (eq-eqb a b same)
 -- The head
 
 -- A head without a fault fits the code and the disk asked
-head-fits-if-fine : (code : Code) (disk : ℕ) (plan : Plan) → firstOf (headFaults (code .layout) (code .data_symbols) disk plan) ≡ Fine → HeadFits code disk plan
-head-fits-if-fine code disk plan e =
-    let none = fine-means-none-holds Fine (headFaults (code .layout) (code .data_symbols) disk plan) e .1 in
+head-fits-if-fine : (code : Code) (disk : ℕ) (head : PlanHead) → firstOf (headFaults (code .layout) (code .data_symbols) disk head) ≡ Fine → HeadFits code disk head
+head-fits-if-fine code disk head e =
+    let none = fine-means-none-holds Fine (headFaults (code .layout) (code .data_symbols) disk head) e .1 in
     record {
       first-count = eqb-true _ _ (not-false _ (none .0));
       edition = eqb-true _ _ (not-false _ (none .1 .0));
@@ -66,15 +66,15 @@ head-fits-if-fine code disk plan e =
     }
 
 -- A head that fits has no fault
-head-fine-if-fits : (code : Code) (disk : ℕ) (plan : Plan) → HeadFits code disk plan → firstOf (headFaults (code .layout) (code .data_symbols) disk plan) ≡ Fine
-head-fine-if-fits code disk plan fits =
+head-fine-if-fits : (code : Code) (disk : ℕ) (head : PlanHead) → HeadFits code disk head → firstOf (headFaults (code .layout) (code .data_symbols) disk head) ≡ Fine
+head-fine-if-fits code disk head fits =
     let count = same-passes (fits .first-count) in
     let edition = same-passes (fits .edition) in
     let disks = same-passes (fits .disks) in
     let height = same-passes (fits .height) in
     let data-symbols = same-passes (fits .data-symbols) in
     let failed-disk = same-passes (fits .failed-disk) in
-    none-holds-means-fine (headFaults (code .layout) (code .data_symbols) disk plan)
+    none-holds-means-fine (headFaults (code .layout) (code .data_symbols) disk head)
     (count, (edition, (disks, (height, (data-symbols, (failed-disk, tt))))))
 
 -- ------------------------------------------------------------------
@@ -296,19 +296,19 @@ module _ (code : Code) (within : WithinLimits code) (disk : ℕ) (disk-below : d
 
   module _ (plan : Plan) where
     -- A fine verdict behind the head means that every rule is kept
-    body-fine : bodyVerdict code disk plan ≡ Fine
-        → RulesKept (code .rows) (symbols code) (survives (code .layout) disk) (lost (code .layout) disk) (plan .steps) (plan .read-count)
+    body-fine : bodyVerdict code disk (plan .steps) (plan .head .reads) ≡ Fine
+        → RulesKept (code .rows) (symbols code) (survives (code .layout) disk) (lost (code .layout) disk) (plan .steps) (plan .head .reads)
     unfolding bodyVerdict
-    body-fine e = rules-kept-if-fine (code .rows) (symbols code) _ _ _ (disk-sets (code .layout) disk disk-below) (plan .steps) (plan .read-count) e
+    body-fine e = rules-kept-if-fine (code .rows) (symbols code) _ _ _ (disk-sets (code .layout) disk disk-below) (plan .steps) (plan .head .reads) e
 
     -- An accepted plan keeps every rule of gf2's acceptance, for the code's matrix
     pub accepted-if-fine : planVerdict code disk plan ≡ Fine → AcceptedFor code disk (stepsOf plan)
     unfolding planVerdict
-    accepted-if-fine e = body-fine (both-fine (firstOf (headFaults (code .layout) (code .data_symbols) disk plan)) _ e .1) .accepted
+    accepted-if-fine e = body-fine (both-fine (firstOf (headFaults (code .layout) (code .data_symbols) disk (plan .head))) _ e .1) .accepted
 
     -- A plan whose head fits, whose steps are formed, which gf2 accepts and whose stated count is true deserves acceptance
-    pub deserves-if-rules-kept : HeadFits code disk plan → EachFormed (symbols code) (plan .steps) → AcceptedFor code disk (stepsOf plan)
-        → plan .read-count ≡ trueReadCount (symbols code) (survives (code .layout) disk) (stepsOf plan) → Deserves code disk plan (plan .read-count)
+    pub deserves-if-rules-kept : HeadFits code disk (plan .head) → EachFormed (symbols code) (plan .steps) → AcceptedFor code disk (stepsOf plan)
+        → plan .head .reads ≡ trueReadCount (symbols code) (survives (code .layout) disk) (stepsOf plan) → Deserves code disk plan (plan .head .reads)
     deserves-if-rules-kept head-fits each-formed accepted true-count =
         record {
           head-fits = head-fits;
@@ -323,12 +323,12 @@ module _ (code : Code) (within : WithinLimits code) (disk : ℕ) (disk-below : d
         }
 
     -- A plan whose verdict is fine deserves acceptance
-    pub deserves-if-fine : planVerdict code disk plan ≡ Fine → Deserves code disk plan (plan .read-count)
+    pub deserves-if-fine : planVerdict code disk plan ≡ Fine → Deserves code disk plan (plan .head .reads)
     unfolding planVerdict
     deserves-if-fine e =
-        let both = both-fine (firstOf (headFaults (code .layout) (code .data_symbols) disk plan)) _ e in
+        let both = both-fine (firstOf (headFaults (code .layout) (code .data_symbols) disk (plan .head))) _ e in
         let body = body-fine (both .1) in
-        deserves-if-rules-kept (head-fits-if-fine code disk plan (both .0)) (body .each-formed) (body .accepted) (body .true-count)
+        deserves-if-rules-kept (head-fits-if-fine code disk (plan .head) (both .0)) (body .each-formed) (body .accepted) (body .true-count)
 
     -- A plan whose verdict is fine, run on a valid stripe with the disk's strip ruined, gives that stripe back
     pub gives-stripe-back-if-fine : planVerdict code disk plan ≡ Fine → (L : ℕ) (stripe x : List ℕ) → Valid L (code .data_symbols) (matrix code) stripe
@@ -355,8 +355,8 @@ module _ (code : Code) (within : WithinLimits code) (disk : ℕ) (disk-below : d
       pub fine-if-deserves : planVerdict code disk plan ≡ Fine
       unfolding planVerdict bodyVerdict
       fine-if-deserves =
-          fine-if-both (head-fine-if-fits code disk plan (deserves .head-fits))
-          (fine-if-rules-kept (code .rows) (symbols code) _ _ _ (disk-sets (code .layout) disk disk-below) (plan .steps) (plan .read-count)
+          fine-if-both (head-fine-if-fits code disk (plan .head) (deserves .head-fits))
+          (fine-if-rules-kept (code .rows) (symbols code) _ _ _ (disk-sets (code .layout) disk disk-below) (plan .steps) (plan .head .reads)
           (record {
             each-formed = deserves .each-formed;
             accepted = accepted-if-deserves;

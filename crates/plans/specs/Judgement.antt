@@ -6,7 +6,7 @@ use mathlib.Core.List.{List, [], _∷_, map}
 use Prim.Native.Nat.{ℕ, zero, suc, _+_, _-_, _≤_, _<_}
 use lib.Dec.{eqb, leb, ltb}
 use lib.ListN.{getD}
-use Rattle.plans.specs.Plans.{SheetStep, Plan, stepOf}
+use Rattle.plans.specs.Plans.{SheetStep, PlanHead, Plan, stepOf}
 use Rattle.codes.specs.Layouts.{symbolsOf, firstSymbol, onDisk}
 use Rattle.codes.specs.declared.Layout.{Layout}
 use Rattle.codes.specs.declared.Code.{Code}
@@ -43,14 +43,14 @@ pub record DiskWithin (layout : Layout) (disk : ℕ) : Type 0 where
 -- The head
 
 -- First count (13), 14, 15, 16
-abbrev pub headFaults : Layout → ℕ → ℕ → Plan → List Fault
-headFaults layout dataSymbols disk plan =
-    (not (eqb (plan .first-count) 6) gets PlanSheetCount)
-    ∷ (not (eqb (plan .edition) 1) gets PlanSheetEdition)
-    ∷ (not (eqb (plan .disks) (layout .disks)) gets PlanOfAnotherCode)
-    ∷ (not (eqb (plan .height) (layout .height)) gets PlanOfAnotherCode)
-    ∷ (not (eqb (plan .data-symbols) dataSymbols) gets PlanOfAnotherCode)
-    ∷ (not (eqb (plan .failed-disk) disk) gets PlanOfAnotherDisk)
+abbrev pub headFaults : Layout → ℕ → ℕ → PlanHead → List Fault
+headFaults layout dataSymbols disk head =
+    (not (eqb (head .count) 6) gets PlanSheetCount)
+    ∷ (not (eqb (head .edition) 1) gets PlanSheetEdition)
+    ∷ (not (eqb (head .disks) (layout .disks)) gets PlanOfAnotherCode)
+    ∷ (not (eqb (head .height) (layout .height)) gets PlanOfAnotherCode)
+    ∷ (not (eqb (head .data_symbols) dataSymbols) gets PlanOfAnotherCode)
+    ∷ (not (eqb (head .disk) disk) gets PlanOfAnotherDisk)
     ∷ []
 
 -- ------------------------------------------------------------------
@@ -150,13 +150,13 @@ judgement rows count survives wanted origin steps stated =
     ifFine ran (firstOf (endFaults rows count survives wanted origin (map stepOf steps) stated)) ran
 
 -- All lost symbols are wanted, and their places are the rows of the disk
-unfoldable pub bodyVerdict : Code → ℕ → Plan → Verdict
-bodyVerdict code disk plan =
+unfoldable pub bodyVerdict : Code → ℕ → List SheetStep → ℕ → Verdict
+bodyVerdict code disk steps stated =
     let layout = code .layout in
-    judgement (code .rows) (symbolsOf layout) (survives layout disk) (lost layout disk) (firstSymbol layout disk) (plan .steps) (plan .read-count)
+    judgement (code .rows) (symbolsOf layout) (survives layout disk) (lost layout disk) (firstSymbol layout disk) steps stated
 
 -- Every rule of the check, the sheet's length and the step limit left aside
 unfoldable pub planVerdict : Code → ℕ → Plan → Verdict
 planVerdict code disk plan =
-    let head = firstOf (headFaults (code .layout) (code .data_symbols) disk plan) in
-    ifFine head (bodyVerdict code disk plan) head
+    let head = firstOf (headFaults (code .layout) (code .data_symbols) disk (plan .head)) in
+    ifFine head (bodyVerdict code disk (plan .steps) (plan .head .reads)) head

@@ -1,10 +1,10 @@
 // The steps of a plan sheet: each read as a decoded step or a refusal, and run on the rows.
 ghost use mathlib.Core.Path.{_≡_};
-ghost use Prim.Native.Nat.{_+_, _*_, _≤_, _<_};
+ghost use Prim.Native.Nat.{_*_, _≤_, _<_};
 ghost use lib.ListN.{drop};
 ghost use Rattle.gf2.specs.BitSets.{has};
 ghost use Rattle.gf2.specs.Plans.{target, ready, NamesBelow};
-ghost use Rattle.plans.specs.Plans.{stepOf, stepAt, sheetSteps};
+ghost use Rattle.plans.specs.Plans.{stepAt, sheetSteps};
 ghost use Rattle.plans.specs.Judgement.{malformed, stepReading};
 ghost use Rattle.plans.specs.Progress.{sourceOf, valueOf, verdictOf, Progressed};
 use gf2::BitSet;
@@ -13,15 +13,20 @@ use gf2::has;
 use gf2::sum;
 use gf2::with;
 use plans::steps::Progress;
+use plans::steps::SheetStep;
 use plans::steps::StepReading;
+use plans::steps::decoded;
+use plans::steps::step_at;
 use refusals::Refusal;
 use refusals::Verdict;
-use sheets::byte_at;
 
 // 17: kind above 2, a number not below N, or clear with source not 0.
-fn malformed(kind: usize, place: usize, source: usize, symbols: usize) -> bool
-    ensures { λ r. ⌜ r ≡ malformed symbols (record { kind = kind; place = place; source = source }) ⌝ }
+fn malformed(step: SheetStep, symbols: usize) -> bool
+    ensures { λ r. ⌜ r ≡ malformed symbols step ⌝ }
 {
+    let kind = step.kind;
+    let place = step.place;
+    let source = step.source;
     if 2 < kind {
         return true;
     }
@@ -32,19 +37,6 @@ fn malformed(kind: usize, place: usize, source: usize, symbols: usize) -> bool
         return true;
     }
     kind == 0 && source != 0
-}
-
-// Kind 0 is clear, kind 1 copy, kind 2 add.
-fn decoded(kind: usize, target: usize, source: usize) -> Step
-    ensures { λ r. ⌜ r ≡ stepOf (record { kind = kind; place = target; source = source }) ⌝ }
-{
-    if kind == 0 {
-        return Step::Clear { target };
-    }
-    if kind == 1 {
-        return Step::Copy { target, source };
-    }
-    Step::Add { target, source }
 }
 
 // Whether every place that the step uses is known.
@@ -61,24 +53,22 @@ fn is_ready(step: Step, known: BitSet) -> bool
 
 // In each step 17, 18, 19.
 fn judge_step(
-    kind: usize,
-    place: usize,
-    source: usize,
+    sheet_step: SheetStep,
     number: usize,
     symbols: usize,
     wanted: BitSet,
     known: BitSet,
 ) -> StepReading
     requires { ⌜ symbols ≤ 64 ⌝ }
-    ensures { λ r. ⌜ r ≡ stepReading symbols (has wanted) (has known) number (record { kind = kind; place = place; source = source }) ⌝ }
+    ensures { λ r. ⌜ r ≡ stepReading symbols (has wanted) (has known) number «sheet_step» ⌝ }
 {
-    if malformed(kind, place, source, symbols) {
+    if malformed(sheet_step, symbols) {
         return StepReading::Refused(Refusal::MalformedStep { step: number });
     }
-    if !has(wanted, place) {
+    if !has(wanted, sheet_step.place) {
         return StepReading::Refused(Refusal::TargetNotLost { step: number });
     }
-    let step = decoded(kind, place, source);
+    let step = decoded(sheet_step);
     if !is_ready(step, known) {
         return StepReading::Refused(Refusal::UnfilledPlaceUsed { step: number });
     }
@@ -87,25 +77,16 @@ fn judge_step(
 
 // Step `number` of the sheet.
 fn read_step(
-    plan: &[u8],
+    steps: &[u8],
     number: usize,
     symbols: usize,
     wanted: BitSet,
     known: BitSet,
 ) -> StepReading
     requires { ⌜ (symbols ≤ 64) × (number < 1024) ⌝ }
-    ensures { λ r. ⌜ r ≡ stepReading symbols (has wanted) (has known) number (stepAt (drop (9 + 3 * number) (now (plan .entry)))) ⌝ }
+    ensures { λ r. ⌜ r ≡ stepReading symbols (has wanted) (has known) number (stepAt (drop (3 * number) (now (steps .entry)))) ⌝ }
 {
-    let at = 9 + 3 * number;
-    judge_step(
-        byte_at(plan, at),
-        byte_at(plan, at + 1),
-        byte_at(plan, at + 2),
-        number,
-        symbols,
-        wanted,
-        known,
-    )
+    judge_step(step_at(steps, number), number, symbols, wanted, known)
 }
 
 // The verdict on a step that was read.
@@ -157,24 +138,25 @@ fn value_of(step: Step, old: BitSet, source: BitSet) -> BitSet
     }
 }
 
-// Runs the steps on the rows, each read against the places known by then. The first faulty step ends the run.
+// Runs the steps of a sheet, given as its bytes from the first step on, on the rows; each is read against the places known by then. The
+// first faulty step ends the run.
 pub fn run_steps(
     code_rows: [BitSet; 64],
     symbols: usize,
     survivors: BitSet,
     wanted: BitSet,
-    plan: &[u8],
+    steps: &[u8],
     count: usize,
 ) -> Progress
     requires { ⌜ (symbols ≤ 64) × (count ≤ 1024) ⌝ }
-    ensures { λ r. ⌜ Progressed symbols (has wanted) «code_rows» survivors (sheetSteps count (drop 9 (now (plan .entry)))) r ⌝ }
+    ensures { λ r. ⌜ Progressed symbols (has wanted) «code_rows» survivors (sheetSteps count (now (steps .entry))) r ⌝ }
 {
     let mut rows = code_rows;
     let mut known = survivors;
     let mut sources = 0;
     let mut number = 0;
     while number < count {
-        let reading = read_step(plan, number, symbols, wanted, known);
+        let reading = read_step(steps, number, symbols, wanted, known);
         let StepReading::Step(step) = reading else {
             let verdict = verdict_of(reading);
             return Progress {
