@@ -1,0 +1,120 @@
+-- Laws of rising lists: no fault exactly where the list keeps the rule, and what is listed. Assumes nothing.
+use mathlib.Core.Path.{_≡_, refl, sym, ap, _∙_}
+use mathlib.Core.Bool.{Bool, true, false, not, _&&_, _||_, true≢false}
+use mathlib.Core.List.{List, [], _∷_}
+use Prim.Native.Nat.{ℕ, zero, suc, _+_, _-_, _≤_, _<_}
+use native.Mathlib.Omega.{arith}
+use lib.Dec.{eqb, leb}
+use lib.ListN.{length, getD, take}
+use borrow.Author.Tests.{leb-false, ltb-false, le-leb, lt-leb, le-ltb, eqb-true, not-false}
+use lib.Seq.{take-all}
+use Rattle.gf2.specs.BitSets.{has, with}
+use Rattle.gf2.proofs.SearchLaws.{firstFrom-none, firstFrom-found, none-if-firstFrom-behind}
+use Rattle.gf2.proofs.SetLaws.{has-empty, has-with}
+use Rattle.refusals.specs.declared.Refusal.{Refusal}
+use Rattle.refusals.proofs.OrderLaws.{NoneHolds}
+use Rattle.lists.specs.Lists.{notRising, firstBad, listFaults, GoodList, listed}
+
+-- Of a false disjunction both sides are false
+or-false-both : (a b : Bool) → (a || b) ≡ false → (a ≡ false) × (b ≡ false)
+or-false-both true b e = absurd (true≢false e)
+or-false-both false b e = (refl, e)
+
+-- An entry from position 1 on rises if it is above the one before it
+pub notRising-behind : (list : List ℕ) (i : ℕ) → 1 ≤ i → notRising list i ≡ leb (getD list i 0) (getD list (i - 1) 0)
+unfolding notRising
+notRising-behind list i h = ap (λ (c : Bool). c && leb (getD list i 0) (getD list (i - 1) 0)) (le-leb 1 i h)
+
+-- The first entry always rises
+pub notRising-first : (list : List ℕ) → notRising list 0 ≡ false
+unfolding notRising
+notRising-first list = refl
+
+-- Each entry rises where each from position 1 on is above the one before it
+rising-here : (list : List ℕ) (i : ℕ) → (1 ≤ i → getD list (i - 1) 0 < getD list i 0) → notRising list i ≡ false
+rising-here list zero above = notRising-first list
+rising-here list (suc i) above = notRising-behind list (suc i) (omega arith) ∙ lt-leb _ _ (above (omega arith))
+
+module _ (least most : ℕ) (allowed : ℕ → Bool) (list : List ℕ) (refusal : ℕ → Refusal) where
+  -- A list without a fault keeps the rule
+  pub good-if-no-fault : NoneHolds (listFaults least most allowed list refusal) → GoodList least most allowed list
+  good-if-no-fault none =
+      let none-bad : (i : ℕ) → i < length list → (not (allowed (getD list i 0)) ≡ false) × (notRising list i ≡ false) =
+      λ i h.
+      or-false-both (not (allowed (getD list i 0))) (notRising list i)
+      (none-if-firstFrom-behind (λ j. not (allowed (getD list j 0)) || notRising list j) (length list) 0 i (omega (arith, ltb-false (firstBad allowed list) (length list) (none .1 .1 .0))) (omega arith) (omega arith)) in
+      record {
+        count-from = ltb-false _ _ (none .0);
+        count-to = ltb-false _ _ (none .1 .0);
+        each-allowed = λ i h. not-false _ (none-bad i h .0);
+        rises = λ i from h. leb-false _ _ (sym (notRising-behind list i from) ∙ none-bad i h .1);
+      }
+
+  -- A list that keeps the rule has no fault
+  pub no-fault-if-good : GoodList least most allowed list → NoneHolds (listFaults least most allowed list refusal)
+  no-fault-if-good good =
+      let none-bad = firstFrom-none (λ j. not (allowed (getD list j 0)) || notRising list j) (length list) 0
+      (λ i a b. both (ap not (good .each-allowed i (omega arith))) (rising-here list i (λ from. good .rises i from (omega arith)))) in
+      (le-ltb _ _ (good .count-from), (le-ltb _ _ (good .count-to), (le-ltb (firstBad allowed list) (length list) (omega (arith, none-bad)), tt)))
+    where
+      both : {a b : Bool} → a ≡ false → b ≡ false → (a || b) ≡ false
+      both p q = rw (p, q)
+
+-- ------------------------------------------------------------------
+-- What is listed
+
+-- Where each entry passes a test, each number listed does
+pub listed-passes : (list : List ℕ) (test : ℕ → Bool) → ((i : ℕ) → i < length list → test (getD list i 0) ≡ true)
+    → (s : ℕ) → listed list s ≡ true → test s ≡ true
+unfolding listed
+listed-passes [] test each s is-listed = absurd (true≢false (sym is-listed))
+listed-passes (entry ∷ list) test each s is-listed =
+    by-first (eqb s entry) refl is-listed (each 0 (omega arith)) (listed-passes list test (λ i below. each (suc i) (omega arith)) s)
+  where
+    by-first : (same : Bool) → eqb s entry ≡ same → (same || listed list s) ≡ true → test entry ≡ true → (listed list s ≡ true → test s ≡ true) → test s ≡ true
+    by-first true e h here later = ap test (eqb-true s entry e) ∙ here
+    by-first false e h here later = later h
+
+-- One entry more is listed
+pub listed-more : (list : List ℕ) (i : ℕ) → i < length list → (s : ℕ) → listed (take (i + 1) list) s ≡ (eqb s (getD list i 0) || listed (take i list) s)
+unfolding listed
+listed-more [] i h s = absurd (omega arith)
+listed-more (entry ∷ list) zero h s = refl
+listed-more (entry ∷ list) (suc i) h s =
+    let more : suc i + 1 ≡ suc (i + 1) = omega arith in
+    rw more (ap (λ (c : Bool). eqb s entry || c) (listed-more list i (omega arith) s) ∙ shift (eqb s entry) (eqb s (getD list i 0)) (listed (take i list) s))
+  where
+    shift : (a b c : Bool) → (a || (b || c)) ≡ (b || (a || c))
+    shift true true c = refl
+    shift true false c = refl
+    shift false b c = refl
+
+-- Before the first entry nothing is listed
+pub listed-none : (list : List ℕ) (s : ℕ) → has 0 s ≡ listed (take 0 list) s
+unfolding listed
+listed-none list s = has-empty s
+
+-- An entry joins the set of those before it
+pub listed-joins : (list : List ℕ) (i : ℕ) → i < length list → (set : ℕ) → ((s : ℕ) → has set s ≡ listed (take i list) s) → {entry set' : ℕ}
+    → entry ≡ getD list i 0 → set' ≡ with set entry → (s : ℕ) → has set' s ≡ listed (take (i + 1) list) s
+listed-joins list i h set so-far entry-is set-is s =
+    rw (set-is, entry-is) (has-with set (getD list i 0) s ∙ ap (λ (c : Bool). eqb s (getD list i 0) || c) (so-far s) ∙ sym (listed-more list i h s))
+
+-- Behind the last entry the set has what is listed
+pub listed-all : (list : List ℕ) (i : ℕ) → length list ≤ i → (set : ℕ) → ((s : ℕ) → has set s ≡ listed (take i list) s) → (s : ℕ) → has set s ≡ listed list s
+listed-all list i all set so-far s = so-far s ∙ ap (λ (l : List ℕ). listed l s) (take-all i list all)
+
+-- ------------------------------------------------------------------
+-- The search for a bad entry
+
+module _ (allowed : ℕ → Bool) (list : List ℕ) (i : ℕ) (none : (j : ℕ) → j < i → (not (allowed (getD list j 0)) || notRising list j) ≡ false) where
+  -- The first bad entry is found
+  pub bad-found : i < length list → (not (allowed (getD list i 0)) || notRising list i) ≡ true → i ≡ firstBad allowed list
+  bad-found h here =
+      sym (firstFrom-found (λ j. not (allowed (getD list j 0)) || notRising list j) (length list) 0 i (omega arith) (omega arith) (λ j a b. none j b) here)
+
+  -- Where none is bad, the search ends at the list's length
+  pub bad-none : i ≤ length list → length list ≤ i → i ≡ firstBad allowed list
+  bad-none h all =
+      let end : i ≡ 0 + length list = omega arith in
+      end ∙ sym (firstFrom-none (λ j. not (allowed (getD list j 0)) || notRising list j) (length list) 0 (λ j a b. none j (omega arith)))
