@@ -6,7 +6,8 @@ ghost use Rattle.gf2.specs.BitSets.{has};
 ghost use Rattle.plans.specs.Judgement.{DiskWithin, lost, survives};
 use codes::Layout;
 use gf2::BitSet;
-use gf2::with;
+use gf2::below;
+use gf2::sum;
 
 // Of an array's symbols those that survive and those that are wanted; the places of wanted symbols count from `origin`.
 pub struct Loss {
@@ -26,17 +27,9 @@ pub fn loss_of_disk(layout: Layout, disk: usize) -> Loss
 {
     let symbols = layout.symbols();
     let origin = layout.first_symbol(disk);
-    let mut survivors = 0;
-    let mut wanted = 0;
-    let mut s = 0;
-    while s < symbols {
-        if layout.on_disk(disk, s) {
-            wanted = with(wanted, s);
-        } else {
-            survivors = with(survivors, s);
-        }
-        s += 1;
-    }
+    let end = origin + layout.height_of(disk);
+    let wanted = sum(below(end), below(origin));
+    let survivors = sum(below(symbols), wanted);
     Loss {
         symbols,
         survivors,

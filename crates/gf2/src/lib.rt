@@ -2,10 +2,10 @@
 // Code above uses these functions and never an operator on the bits of a BitSet,
 // so that the width of a set is known here alone.
 ghost use mathlib.Core.Path.{_≡_};
-ghost use Prim.Native.Nat.{_<_};
+ghost use Prim.Native.Nat.{_≤_, _<_};
 ghost use lib.Bits.{bitAnd, bitOr, bitXor};
 ghost use lib.Dec.{eqb};
-ghost use Rattle.gf2.specs.BitSets.{has, with, count, overlap};
+ghost use Rattle.gf2.specs.BitSets.{has, with, below, count, overlap};
 
 // A row of a code, a set of symbols or a pattern: bit 0 is the lowest.
 pub type BitSet = u64;
@@ -45,6 +45,17 @@ pub fn with(set: BitSet, bit: usize) -> BitSet
     ensures { λ r. ⌜ r ≡ with set bit ⌝ }
 {
     set | (1u64 << bit)
+}
+
+// The set of the numbers below a bound.
+pub fn below(bound: usize) -> BitSet
+    requires { ⌜ bound ≤ 64 ⌝ }
+    ensures { λ r. ⌜ r ≡ below bound ⌝ }
+{
+    if bound == 64 {
+        return 0xffff_ffff_ffff_ffff;
+    }
+    (1u64 << bound) - 1
 }
 
 // How many elements the set has.

@@ -1,0 +1,27 @@
+-- `gf2::below` meets its contract: the shifted one is not cut off, and the whole width is the case beside. Assumes nothing.
+use Prim.Native.Nat.{ℕ, _-_, _≤_}
+use mathlib.Core.Path.{ap, sym, subst}
+use native.Mathlib.Omega.{arith}
+use lib.Pow.{pow-pos}
+use borrow.Author.Needs.{needs}
+use Rattle.gf2.specs.BitSets.{below}
+use Rattle.gf2.proofs.SetLaws.{shifted-one}
+use Rattle.gf2.proofs.below.Statement.{statement}
+use Rattle.gf2.proofs.below.Tie as tie
+
+returns : tie.Need-returns
+unfolding below
+returns c = sym (ap below (c .if1 .taken))
+
+shl-result : tie.Need-shl-result
+shl-result c = search needs
+
+sub-result : tie.Need-sub-result
+sub-result c = subst (λ (n : ℕ). 1 ≤ n) (sym (shifted-one 64 (c .before .args .bound) (omega (arith, c .before .pre)))) (pow-pos (c .before .args .bound))
+
+returns-2 : tie.Need-returns-2
+unfolding below
+returns-2 c = ap (λ (n : ℕ). n - 1) (shifted-one 64 (c .before .args .bound) (omega (arith, c .before .pre)))
+
+pub below-spec : {M : Type 1} → statement M
+below-spec = tie.close (tie.spec returns shl-result sub-result returns-2)
