@@ -5,12 +5,13 @@
 import os
 import sys
 from ctypes import CDLL, Structure, c_size_t, c_uint64, create_string_buffer
-from typing import Any, Union
+from typing import Any, Optional, Union
 
 import second
-from arrays import SPECIAL_CODES, below, chosen, random_bytes, random_code
+from arrays import SPECIAL_CODES, below, chosen, random_bytes, random_code, shuffled
 from second import Code, Refusal, changed, read_code, sheet_of
-from second_checker import check, plan_sheet, step_count
+from second_checker import check, lost_places, plan_sheet
+from second_planner import BUFFER, LIST_BUFFER, can_be_rebuilt, judge_pattern, judge_plan, planning_refusal
 from second_rebuild import rebuild
 
 FIELDS = {
@@ -27,13 +28,13 @@ ANSWERS = {
     "encode": "verdict",
     "check": "checked",
     "plan": "planned",
+    "plan_wanted": "planned",
     "rebuild": "verdict",
     "strip": "part",
     "strip_verdict": "verdict",
     "look_up": "part",
     "look_up_verdict": "verdict",
 }
-PLAN_BUFFER = 3081
 calls = 0
 
 
@@ -80,27 +81,21 @@ def test_encode(sheet: bytes, size: int, data: bytes, stripe: bytes) -> None:
     assert buffer.raw == after
 
 
-def test_plan(sheet: bytes, disk: int, length: int) -> bytes:
+def test_plan(sheet: bytes, disk: int, length: int, listed: Optional[bytes] = None) -> bytes:
     """Planning's answer is free, so it is held to what must be true of it. Answers the plan, or no bytes."""
     before = random_bytes(length)
     buffer = lent(before)
-    number, place, size, reads, pattern = ask("plan", sheet, disk, buffer)
-    code = read_code(sheet)
-    if isinstance(code, Refusal) or disk >= code.disks or length < PLAN_BUFFER:
-        refusal = code if isinstance(code, Refusal) else Refusal(7 if disk >= code.disks else 34)
-        assert (number, place, size, reads, pattern) == (*refusal, 0, 0, 0)
-    else:
-        assert (number, place) == (0, 0) and (size > 0) != (pattern > 0)
-    assert buffer.raw[size:] == before[size:]
+    call, given = ("plan", ()) if listed is None else ("plan_wanted", (listed,))
+    number, place, size, reads, pattern = ask(call, sheet, disk, *given, buffer)
     plan = buffer.raw[:size]
-    if size:
-        assert check(sheet, disk, plan) == reads
-        assert step_count(plan) <= code.height * (code.symbols - code.height)
-    if pattern:
-        data = bytes(pattern >> t & 1 for t in range(code.data_symbols))
-        strips = second.strips(code, 1, second.encoding(code, 1, data))
-        assert pattern < 2**code.data_symbols
-        assert [any(strip) for strip in strips] == [d == disk for d in range(code.disks)]
+    refusal = planning_refusal(sheet, disk, listed, length)
+    assert buffer.raw[size:] == before[size:]
+    if refusal:
+        assert (number, place, size, reads, pattern) == (*refusal, 0, 0, 0)
+    elif can_be_rebuilt(read_code(sheet), disk, listed):
+        assert (number, place, pattern) == (0, 0, 0) and judge_plan(sheet, disk, plan, reads, listed) is None
+    else:
+        assert (number, place, size, reads) == (0, 0, 0, 0) and judge_pattern(sheet, disk, pattern, listed) is None
     return plan
 
 
@@ -128,6 +123,19 @@ def test_views(sheet: bytes, disk: int, size: int, stripe: bytes, spare: bytes, 
         assert ask(call + "_verdict", *given) == told(refusal)[:2]
 
 
+def any_list(code: Code, disk: int) -> bytes:
+    """A good list of a disk's symbols in two of three cases, else one with another entry, order or count."""
+    lost = lost_places(code, disk)
+    good = sorted(shuffled(lost)[: 1 + below(len(lost))])
+    bad = [good[:-1] + [below(256)], good[::-1], good + good[-1:], [], list(lost) + [lost[-1] + 1], good[:1] * chosen((255, 256, 300))]
+    return bytes(good if below(3) else chosen(bad))
+
+
+def with_faults(plan: bytes) -> list[bytes]:
+    """A plan, with one byte changed, and one byte short; or no bytes, where there is none."""
+    return [plan, changed(plan, below(len(plan)), below(10)), plan[:-1]] if plan else [b""]
+
+
 def test_array(code: Code) -> None:
     good, size = sheet_of(code), chosen((1, 2, 7))
     for sheet in (*[good] * 6, changed(good, below(len(good)), below(256)), good[:-1], good + b"\0", b""):
@@ -139,9 +147,11 @@ def test_array(code: Code) -> None:
             test_encode(sheet, length, random_bytes(code.data_symbols * size + 1), stripe)
             spare = random_bytes(code.height * size + chosen((0, 0, 1)))
             test_views(sheet, disk, length, stripe, spare, below(code.symbols + 1))
-            plan = test_plan(sheet, disk, PLAN_BUFFER - chosen((0, 0, 0, 1)) + chosen((0, 0, 9)))
-            faulty = changed(plan, below(len(plan)), below(10)) if plan else b""
-            for tried in (plan, faulty, plan[:-1], plan_sheet(code, disk, [])):
+            listed = any_list(code, disk)
+            plan = test_plan(sheet, disk, BUFFER - chosen((0, 0, 0, 1)) + chosen((0, 0, 9)))
+            part = test_plan(sheet, disk, LIST_BUFFER - chosen((0, 0, 0, 1, 33)) + chosen((0, 0, 9)), listed)
+            stated = [plan_sheet(code, disk, []), plan_sheet(code, disk, [], listed=listed[:255])]
+            for tried in with_faults(plan) + with_faults(part) + stated:
                 test_check(sheet, disk, tried)
                 test_rebuild(sheet, disk, tried, length, stripe)
 

@@ -13,8 +13,9 @@ from typing import Callable, Iterable, Optional
 import second
 from arrays import SMALLEST, SPECIAL_CODES, below, random_bytes, random_code, random_codes, random_row
 from desk_vectors import add_desk_vectors
+from edition2_vectors import add_edition_2_vectors
 from plan_vectors import add_plan_vectors
-from planner_vectors import write_planner_vectors
+from planner_vectors import Questions, add_list_questions, add_planning_questions
 from rebuild_vectors import add_rebuild_vectors
 from records import ROOM, Vectors
 from second import Code, changed
@@ -311,9 +312,14 @@ def main() -> None:
     add_plan_vectors(vectors)
     add_desk_vectors(vectors)
     add_rebuild_vectors(vectors)
+    questions = Questions()
+    add_planning_questions(questions)
+    # The records with lists come last, so that none of the others depends on them.
+    add_edition_2_vectors(vectors)
+    add_list_questions(questions)
     (CRATE / "stdin").write_bytes(b"".join(vectors.records))
     (CRATE / "stdout").write_text("".join(line + "\n" for line in vectors.lines))
-    questions = write_planner_vectors()
+    questions.write()
     for kind, count in vectors.kinds.items():
         print(f"{count:5} {kind}")
     print(f"{len(vectors.records):5} records")

@@ -279,7 +279,7 @@ def length_fault(change: Callable[[bytes], bytes]) -> Callable[[Asked], Asked]:
 
 def add_plan_pairs(vectors: Vectors) -> None:
     """Two faults at once, for the order of the refusals. Those of the length come last: a cut leaves less to change."""
-    head = [byte_fault(at, value) for at, value in [(0, 4), (1, 2), (3, 1), (5, 1), (8, 4)]]
+    head = [byte_fault(at, value) for at, value in [(0, 4), (1, 3), (3, 1), (5, 1), (8, 4)]]
     steps = [byte_fault(at, value) for at, value in [(9, 3), (9, 2), (10, 3), (11, 8), (14, 8), (15, 2), (16, 2)]]
     ends = [byte_fault(at, value) for at, value in [(6, 4), (20, 6), (16, 0), (19, 0)]]
     lengths = [length_fault(change) for change in (lambda s: s + b"\1", lambda s: s[:18], lambda s: s[:8])]

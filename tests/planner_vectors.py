@@ -1,12 +1,14 @@
-"""The records of planning: every family, codes of every shape that can and can't be rebuilt, and every refusal."""
+"""The records of planning: every family, codes of every shape that can and can't be rebuilt, lists of wanted symbols, and every refusal."""
 from collections import Counter
 from itertools import product
-from typing import Optional
+from typing import Iterable, Optional
 
 from arrays import SMALLEST, SPECIAL_CODES, below, chosen, low_rank_code, random_bytes, random_code, random_codes
-from plan_vectors import planted_codes, some_disks
+from plan_vectors import family_codes, planted_codes, some_disks
+from plans import all_lists, restorable, some_lists, torn_codes
 from second import SQUARE, Code, changed, liberation, row_diagonal, sheet_of, single_parity
-from second_planner import BUFFER, CRATE, P8, P9, Asked, most_steps
+from second_checker import lost_places
+from second_planner import BUFFER, CRATE, HALF, LIST_BUFFER, P8, P9, Asked, most_steps
 
 SHOWN_STEPS = 16
 """Plans are shown where no plan has more steps."""
@@ -34,8 +36,16 @@ class Questions:
         for disk in disks or []:
             self.add(kind, sheet_of(code), disk, **more)
 
-    def bytes(self) -> bytes:
-        return b"".join(asked.record() for asked in self.records)
+    def add_list(self, kind: str, sheet: bytes, disk: int, listed: Iterable[int], **more: int) -> None:
+        self.add(kind, sheet, disk, **{"buffer_length": LIST_BUFFER, "listed": bytes(listed), **more})
+
+    def add_lists(self, kind: str, code: Code, disk: int, lists: Iterable[Iterable[int]], **more: int) -> None:
+        for listed in lists:
+            self.add_list(kind, sheet_of(code), disk, listed, **{"shown": most_steps(code) <= SHOWN_STEPS, **more})
+
+    def write(self) -> None:
+        """Writes crates/planvectors/stdin anew. Its stdout is what the program printed, judged by second_planner.py."""
+        (CRATE / "stdin").write_bytes(b"".join(asked.record() for asked in self.records))
 
 
 # Codes that can be rebuilt
@@ -179,9 +189,7 @@ def add_refused(questions: Questions) -> None:
         questions.add("several faults", sheet, disk, buffer_length=length)
 
 
-def write_planner_vectors() -> Questions:
-    """Writes crates/planvectors/stdin anew. Its stdout is what the program printed, judged by second_planner.py."""
-    questions = Questions()
+def add_planning_questions(questions: Questions) -> None:
     add_worked_cases(questions)
     add_families(questions)
     add_second_parity(questions)
@@ -192,5 +200,89 @@ def write_planner_vectors() -> Questions:
     add_nearly(questions)
     add_low_rank(questions)
     add_refused(questions)
-    (CRATE / "stdin").write_bytes(questions.bytes())
-    return questions
+
+
+# Lists of wanted symbols
+
+
+def add_lists_of_families(questions: Questions) -> None:
+    for code in (SQUARE, P8, P9):
+        for disk in range(code.disks):
+            questions.add_lists("list, worked cases", code, disk, all_lists(code, disk))
+    for code in family_codes():
+        for disk in sorted({0, code.disks - 1}):
+            length = chosen([LIST_BUFFER, LIST_BUFFER + 1, 4096])
+            questions.add_lists("list, families", code, disk, [chosen(some_lists(code, disk))], buffer_length=length)
+
+
+def add_torn_disks(questions: Questions) -> None:
+    """Disks that can be rebuilt in part: every row alone, all that can be, those and one more, the whole disk with a list and without."""
+    for code, disk in torn_codes(20):
+        can, lost = restorable(code, disk), list(lost_places(code, disk))
+        more = sorted(can + [chosen([place for place in lost if place not in can])])
+        questions.add_lists("list, torn disk", code, disk, [[place] for place in lost] + [can, more, lost], shown=True)
+        questions.add("list, torn disk, none given", sheet_of(code), disk)
+
+
+def add_lists_of_small_codes(questions: Questions) -> None:
+    """Every list of a disk, for small codes of any rank."""
+    for _ in range(16):
+        code = random_code(2 + below(3), 1 + below(3), 1 + below(7))
+        disk = below(code.disks)
+        questions.add_lists("list, small codes", code, disk, all_lists(code, disk), shown=True)
+    for _ in range(12):
+        code = low_rank_code(2 + below(3), 2 + below(2), 1 + below(64))
+        disk = below(code.disks)
+        questions.add_lists("list, small codes of low rank", code, disk, all_lists(code, disk), shown=True)
+
+
+def add_lists_of_large_codes(questions: Questions) -> None:
+    for code in [low_rank_code(16, 4, 64), low_rank_code(2, 32, 40), random_code(2, 32, 33), random_code(3, 21, 42)]:
+        questions.add_lists("list, large codes", code, 0, some_lists(code, 0))
+        questions.add_lists("list, large codes", code, code.disks - 1, some_lists(code, code.disks - 1)[:1])
+    for code, disk in planted_codes()[::2]:
+        questions.add_lists("list, planted codes", code, disk, some_lists(code, disk)[:1])
+    survivors, lost = tuple(2**bit for bit in range(32)), (2**32 - 1,) * 32
+    questions.add_lists("list, longest plan", Code(2, 32, 32, lost + survivors), 0, [range(32), range(31)], shown=True)
+    questions.add_lists("list, longest plan", Code(2, 32, 32, survivors + lost), 1, [range(32, 64), range(33, 64, 2)])
+
+
+def add_bad_lists(questions: Questions) -> None:
+    """Each position of 23: an entry that doesn't rise, or isn't on the disk. Then counts at their limits, and beyond those of a byte."""
+    code, disk = single_parity(3, 5), 2
+    good, sheet = list(lost_places(code, disk)), sheet_of(code)
+    for position in range(5):
+        for entry in sorted({0, good[0] - 1, good[-1] + 1, good[position - 1], good[0], code.symbols, 255} - {good[position]}):
+            questions.add_list("list, bad entry", sheet, disk, good[:position] + [entry] + good[position + 1 :])
+        questions.add_list("list, bad entry", sheet, disk, good[:position] + [255] + good[position:4])
+    for bad in [good[::-1], [good[1]] + good[:4], good[:2] + good[:3], [255] * 5, [0] * 5]:
+        questions.add_list("list, bad entry", sheet, disk, bad)
+    for code, disk in [(SQUARE, 1), (single_parity(1, 32), 1), (P8, 0), (HALF, 1)]:
+        lost = list(lost_places(code, disk))
+        for listed in ([], lost + lost[-1:], lost + [lost[-1] + 1], [0] + lost):
+            questions.add_list("list, count at a limit", sheet_of(code), disk, listed)
+    for count in (33, 64, 255, 256, 257, 258, 300, 513):
+        questions.add_list("list, count beyond limits", sheet_of(SQUARE), 1, (2 + at % 254 for at in range(count)))
+        questions.add_list("list, count beyond limits", sheet_of(SQUARE), 1, bytes([2]) * count)
+    questions.add_list("list, other disks", sheet_of(SQUARE), 0, [2, 3], count=4)
+    questions.add_list("list, other disks", sheet_of(single_parity(1, 32)), 0, range(32), count=2)
+
+
+def add_list_refusals(questions: Questions) -> None:
+    for code, disk in [(SQUARE, 1), (P8, 0), (random_code(2, 32, 20), 1)]:
+        lost = lost_places(code, disk)
+        for length in (0, 3080, 3081, 3113, 3114, 3115, 4096):
+            questions.add_list("list, buffer at a limit", sheet_of(code), disk, lost[-1:], buffer_length=length)
+    square = sheet_of(SQUARE)
+    lists = ([6], [], [7, 6])
+    for sheet, disk, listed, length in product((square, square[:69], changed(square, 13, 128)), (3, 4, 2**64 - 1), lists, (3114, 3113)):
+        questions.add_list("list, several faults", sheet, disk, listed, buffer_length=length)
+
+
+def add_list_questions(questions: Questions) -> None:
+    add_lists_of_families(questions)
+    add_torn_disks(questions)
+    add_lists_of_small_codes(questions)
+    add_lists_of_large_codes(questions)
+    add_bad_lists(questions)
+    add_list_refusals(questions)

@@ -1,21 +1,27 @@
 """Plans for the vectors: lost rows as sums of surviving rows, and longer ways to the same end."""
-from typing import Iterable, NamedTuple, Optional
+from itertools import combinations
+from typing import Iterable, NamedTuple, Optional, Sequence
 
 from arrays import below, chosen, random_code, shuffled
 from second import Code, sheet_of
-from second_checker import ADD, CLEAR, COPY, STEP_LIMIT, Step, lost_places, plan_sheet
+from second_checker import ADD, CLEAR, COPY, STEP_LIMIT, Listed, Step, lost_places, plan_sheet, wanted_symbols
 
 
 class Plan(NamedTuple):
-    """Steps for a disk of a code."""
+    """Steps for a disk of a code, or for the symbols of a list."""
 
     code: Code
     disk: int
     steps: list[Step]
+    listed: Listed = None
 
     @property
     def lost(self) -> range:
         return lost_places(self.code, self.disk)
+
+    @property
+    def wanted(self) -> Sequence[int]:
+        return wanted_symbols(self.code, self.disk, self.listed)
 
     @property
     def survivors(self) -> list[int]:
@@ -27,7 +33,7 @@ class Plan(NamedTuple):
 
     def sheet(self, reads: Optional[int] = None) -> bytes:
         """The plan sheet; its read count is the true one if none is said."""
-        return plan_sheet(self.code, self.disk, self.steps, reads)
+        return plan_sheet(self.code, self.disk, self.steps, reads, self.listed)
 
     def with_steps(self, steps: Iterable[Step]) -> "Plan":
         return self._replace(steps=list(steps))
@@ -69,26 +75,27 @@ def fill(target: int, sources: list[int], clear_first: bool = False) -> list[Ste
     return [Step(COPY, target, sources[0])] + [Step(ADD, target, source) for source in sources[1:]]
 
 
-def direct_plan(code: Code, disk: int) -> Optional[Plan]:
-    """Each lost row from survivors alone, in order; nothing if there is no plan."""
-    sums = [sources_of(code, place, survivors(code, disk)) for place in lost_places(code, disk)]
+def direct_plan(code: Code, disk: int, listed: Listed = None) -> Optional[Plan]:
+    """Each wanted row from survivors alone, in order; nothing if there is no plan."""
+    wanted = wanted_symbols(code, disk, listed)
+    sums = [sources_of(code, place, survivors(code, disk)) for place in wanted]
     if None in sums:
         return None
-    steps = [fill(place, sources) for place, sources in zip(lost_places(code, disk), sums)]
-    return Plan(code, disk, sum(steps, []))
+    steps = [fill(place, sources) for place, sources in zip(wanted, sums)]
+    return Plan(code, disk, sum(steps, []), listed)
 
 
-def chained_plan(code: Code, disk: int) -> Optional[Plan]:
-    """Lost rows in any order, each from those before it as far as they serve, and from survivors in any order."""
+def chained_plan(code: Code, disk: int, listed: Listed = None) -> Optional[Plan]:
+    """Wanted rows in any order, each from those before it as far as they serve, and from survivors in any order."""
     steps: list[Step] = []
     filled: list[int] = []
-    for place in shuffled(lost_places(code, disk)):
+    for place in shuffled(wanted_symbols(code, disk, listed)):
         sources = sources_of(code, place, filled + shuffled(survivors(code, disk)))
         if sources is None:
             return None
         steps += fill(place, shuffled(sources), clear_first=below(3) == 0)
         filled.append(place)
-    return Plan(code, disk, steps)
+    return Plan(code, disk, steps, listed)
 
 
 def planted_code(disks: int, height: int, data_symbols: int, disk: int) -> Code:
@@ -102,25 +109,55 @@ def planted_code(disks: int, height: int, data_symbols: int, disk: int) -> Code:
     return code._replace(rows=tuple(rows))
 
 
+def some_lists(code: Code, disk: int) -> list[list[int]]:
+    """One row of a disk, some rows and all rows, each list once."""
+    lost = lost_places(code, disk)
+    lists = [[chosen(lost)], sorted(shuffled(lost)[: 1 + below(len(lost))]), list(lost)]
+    return [listed for number, listed in enumerate(lists) if listed not in lists[:number]]
+
+
+def all_lists(code: Code, disk: int) -> list[list[int]]:
+    """Every good list of a disk."""
+    lost = lost_places(code, disk)
+    return [list(listed) for count in range(1, len(lost) + 1) for listed in combinations(lost, count)]
+
+
+def restorable(code: Code, disk: int) -> list[int]:
+    """The lost symbols that survivors sum to."""
+    return [place for place in lost_places(code, disk) if sources_of(code, place, survivors(code, disk)) is not None]
+
+
+def torn_codes(count: int) -> list[tuple[Code, int]]:
+    """Small random codes with a disk that can be rebuilt in some rows and not in all."""
+    found: list[tuple[Code, int]] = []
+    while len(found) < count:
+        disks, height = 2 + below(3), 2 + below(3)
+        code = random_code(disks, height, disks * height - height + below(2))
+        disk = below(disks)
+        if 0 < len(restorable(code, disk)) < height:
+            found.append((code, disk))
+    return found
+
+
 # Longer ways
 
 
 def idle_starts(plan: Plan) -> list[list[Step]]:
     """Steps that fill places in vain: what comes behind them fills every place again."""
-    lost, others = plan.lost, plan.survivors
-    copies = [Step(COPY, place, chosen(others)) for place in lost]
-    to_itself = [step for place in lost for step in fill(place, [chosen(others), place])]
-    handed_on = [Step(COPY, lost[0], chosen(others))] + [Step(COPY, place, place - 1) for place in lost[1:]]
-    cleared = [Step(CLEAR, place, 0) for place in shuffled(lost)]
+    wanted, others = plan.wanted, plan.survivors
+    copies = [Step(COPY, place, chosen(others)) for place in wanted]
+    to_itself = [step for place in wanted for step in fill(place, [chosen(others), place])]
+    handed_on = [Step(COPY, wanted[0], chosen(others))] + [Step(COPY, place, last) for last, place in zip(wanted, wanted[1:])]
+    cleared = [Step(CLEAR, place, 0) for place in shuffled(wanted)]
     return [cleared, copies, to_itself, handed_on, copies + cleared + copies]
 
 
 def idle_ends(plan: Plan) -> list[list[Step]]:
     """Steps that leave every filled place as it is."""
-    lost, others = plan.lost, plan.survivors
-    one, other = lost[0], lost[-1]
-    ends = [[Step(COPY, place, place) for place in lost]]
-    ends.append([Step(ADD, place, source) for place, source in zip(lost, others)] * 2)
+    wanted, others = plan.wanted, plan.survivors
+    one, other = wanted[0], wanted[-1]
+    ends = [[Step(COPY, place, place) for place in wanted]]
+    ends.append([Step(ADD, place, source) for place, source in zip(wanted, others)] * 2)
     if one != other:
         swap = [Step(ADD, one, other), Step(ADD, other, one), Step(ADD, one, other)]
         ends += [swap + swap, [Step(ADD, other, one)] * 2]
@@ -129,8 +166,8 @@ def idle_ends(plan: Plan) -> list[list[Step]]:
 
 def interleaved(plan: Plan) -> Plan:
     """The steps of all places mixed, those of a place in their order; for plans that read survivors alone."""
-    queues = [[step for step in plan.steps if step.target == place] for place in plan.lost]
-    turns = shuffled([step.target - plan.lost[0] for step in plan.steps])
+    queues = {place: [step for step in plan.steps if step.target == place] for place in plan.wanted}
+    turns = shuffled([step.target for step in plan.steps])
     return plan.with_steps(queues[turn].pop(0) for turn in turns)
 
 
@@ -138,7 +175,7 @@ def lengthened(plan: Plan, count: int = STEP_LIMIT) -> Plan:
     """The plan with as many steps as said, by pairs of adds that cancel and at most one copy of a place onto itself."""
     steps = list(plan.steps)
     while len(steps) + 1 < count:
-        steps += [Step(ADD, chosen(plan.lost), chosen(plan.survivors))] * 2
+        steps += [Step(ADD, chosen(plan.wanted), chosen(plan.survivors))] * 2
     if len(steps) < count:
-        steps.append(Step(COPY, plan.lost[0], plan.lost[0]))
+        steps.append(Step(COPY, plan.wanted[0], plan.wanted[0]))
     return plan.with_steps(steps)

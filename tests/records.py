@@ -10,7 +10,8 @@ import second
 import second_checker
 import second_desk
 import second_rebuild
-from second import Refusal
+from second import Code, Refusal
+from second_checker import listed_in, wanted_symbols, with_symbols
 
 ROOM = 262144
 """The most bytes that a long input of a record has."""
@@ -130,13 +131,19 @@ class Vectors:
         refusal, after = second_rebuild.rebuild(sheet, disk, plan, size, before)
         line = refused(refusal) if refusal else "fine"
         if valid and not refusal:
-            assert after == stripe, kind
+            assert after == given_back(code, disk, plan, size, before, stripe), kind
         numbers = [disk, size, stripe_length, seed, data_length, seed + 1, start, end, seed + 2 if ruin is None else ruin, len(sheet)]
         self.add(kind, 7, numbers, sheet + plan, f"{line} digest {digest(after)}")
 
     def desk(self, kind: str, given: bytes) -> None:
         """The desk's lines stand in one line of the output, each newline shown as a bar."""
         self.add(kind, 6, [], given, second_desk.desk(given).replace("\n", "|"))
+
+
+def given_back(code: Code, disk: int, plan: bytes, size: int, before: bytes, stripe: bytes) -> bytes:
+    """What was lent, with the wanted symbols of the valid stripe."""
+    wanted = wanted_symbols(code, disk, listed_in(plan))
+    return with_symbols(size, wanted, b"".join(stripe[s * size : (s + 1) * size] for s in wanted), before)
 
 
 def shown(answer: Union[bytes, Refusal]) -> str:

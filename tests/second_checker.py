@@ -1,15 +1,15 @@
-"""The second program's checker: what document 01's check answers, worked out anew.
+"""The second program's checker: what document 01's check answers, worked out anew, with document 02's edition 2 of the plan sheet.
 
 It judges a plan by what the steps do to bytes, and never looks at a row of bits. The columns of bits in the data carry
-every pattern, or every pattern of one bit where there are too many. The plan runs on their stripe with the lost strip
-ruined in several ways, and what it leaves is compared with the encoding.
+every pattern, or every pattern of one bit where there are too many. The plan runs on their stripe with the wanted symbols
+ruined in several ways, and what it leaves is compared with the encoding. A sheet of edition 1 wants its whole disk.
 
-    python3 tests/second_checker.py     runs its own test, on the worked cases and limits of document 01
+    python3 tests/second_checker.py     runs its own test, on the worked cases and limits of documents 01 and 02
 """
-from typing import NamedTuple, Optional, Union
+from typing import NamedTuple, Optional, Sequence, Union
 
 from second import SQUARE, Code, Refusal, bits_of, changed, encoding, liberation, read_code, row_diagonal
-from second import sheet_of, strips
+from second import sheet_of, single_parity
 
 CLEAR, COPY, ADD = 0, 1, 2
 STEP_LIMIT = 1024
@@ -21,6 +21,10 @@ class Step(NamedTuple):
     kind: int
     target: int
     source: int
+
+
+Listed = Optional[Sequence[int]]
+"""A list of wanted symbols, or none, as in edition 1."""
 
 
 # The plan sheet
@@ -36,45 +40,79 @@ def check(sheet: bytes, disk: int, plan: bytes) -> Union[int, Refusal]:
     refusal = head_refusal(code, disk, plan)
     if refusal:
         return refusal
-    steps = steps_of(plan)
-    refusal = step_refusal(code, disk, steps) or end_refusal(code, disk, steps)
+    wanted, steps = wanted_symbols(code, disk, listed_in(plan)), steps_of(plan)
+    refusal = step_refusal(code, disk, wanted, steps) or end_refusal(code, wanted, steps)
     if refusal:
         return refusal
     reads = read_count(code, disk, steps)
     return reads if plan[6] == reads else Refusal(22, reads)
 
 
+def listed_in(plan: bytes) -> Listed:
+    """The list that a sheet holds, or what there is of it."""
+    return None if plan[1] == 1 else plan[8 : 8 + plan[7]]
+
+
+def head_length(plan: bytes) -> int:
+    """The bytes up to the first step, by the list's count and not by what there is of the sheet."""
+    return 9 if plan[1] == 1 else 10 + plan[7]
+
+
 def step_count(plan: bytes) -> int:
-    return int.from_bytes(plan[7:9], "little")
+    return int.from_bytes(plan[head_length(plan) - 2 : head_length(plan)], "little")
 
 
 def steps_of(plan: bytes) -> list[Step]:
-    return [Step(*plan[at : at + 3]) for at in range(9, len(plan), 3)]
+    return [Step(*plan[at : at + 3]) for at in range(head_length(plan), len(plan), 3)]
 
 
-def plan_sheet(code: Code, disk: int, steps: list[Step], reads: Optional[int] = None) -> bytes:
-    """The sheet of a plan; its read count is the true one if none is said."""
+def plan_sheet(code: Code, disk: int, steps: list[Step], reads: Optional[int] = None, listed: Listed = None) -> bytes:
+    """The sheet of a plan, of edition 2 if it has a list; its read count is the true one if none is said."""
     stated = read_count(code, disk, steps) if reads is None else reads
-    head = bytes([6, 1, code.disks, code.height, code.data_symbols, disk, stated])
-    return head + len(steps).to_bytes(2, "little") + b"".join(bytes(step) for step in steps)
+    head = bytes([6, 1 if listed is None else 2, code.disks, code.height, code.data_symbols, disk, stated])
+    section = b"" if listed is None else bytes([len(listed), *listed])
+    return head + section + len(steps).to_bytes(2, "little") + b"".join(bytes(step) for step in steps)
 
 
 def head_refusal(code: Code, disk: int, plan: bytes) -> Optional[Refusal]:
-    """The order: under 9 bytes (11), first count (13), 14, 15, 16, step limit (13), 11, 12."""
+    """The order: under 9 bytes (11), first count (13), 14, 15, 16, 11 if the sheet ends before the step count does, step limit
+    (13), 23, 11, 12. A sheet of edition 1 has its step count in its 9 bytes, and what it wants is never a bad list."""
     if len(plan) < 9:
         return Refusal(11)
     count, edition, disks, height, data_symbols, failed = plan[:6]
-    length = 9 + 3 * step_count(plan)
+    length = head_length(plan) + 3 * step_count(plan)
+    bad_list = list_refusal(code, disk, wanted_symbols(code, disk, listed_in(plan)))
     faults = [
-        (count != 6, 13),
-        (edition != 1, 14),
-        ((disks, height, data_symbols) != (code.disks, code.height, code.data_symbols), 15),
-        (failed != disk, 16),
-        (step_count(plan) > STEP_LIMIT, 13),
-        (len(plan) < length, 11),
-        (len(plan) > length, 12),
+        (count != 6, Refusal(13)),
+        (edition not in (1, 2), Refusal(14)),
+        ((disks, height, data_symbols) != (code.disks, code.height, code.data_symbols), Refusal(15)),
+        (failed != disk, Refusal(16)),
+        (len(plan) < head_length(plan), Refusal(11)),
+        (step_count(plan) > STEP_LIMIT, Refusal(13)),
+        (bad_list is not None, bad_list),
+        (len(plan) < length, Refusal(11)),
+        (len(plan) > length, Refusal(12)),
     ]
-    return next((Refusal(number) for holds, number in faults if holds), None)
+    return next((refusal for holds, refusal in faults if holds), None)
+
+
+# Wanted symbols
+
+
+def wanted_symbols(code: Code, disk: int, listed: Listed) -> Sequence[int]:
+    """The symbols of a list, or without one the whole disk."""
+    return lost_places(code, disk) if listed is None else listed
+
+
+def list_refusal(code: Code, disk: int, wanted: Sequence[int]) -> Optional[Refusal]:
+    """23: a count of 0 or above r, then the end of the shortest front that isn't a choice of the disk's symbols in their order."""
+    if len(wanted) not in range(1, code.height + 1):
+        return Refusal(23)
+    for position in range(len(wanted)):
+        front = wanted[: position + 1]
+        if [symbol for symbol in lost_places(code, disk) if symbol in front] != list(front):
+            return Refusal(23, position)
+    return None
 
 
 # Steps
@@ -89,13 +127,13 @@ def read_count(code: Code, disk: int, steps: list[Step]) -> int:
     return len({step.source for step in steps if step.kind != CLEAR} - set(lost_places(code, disk)))
 
 
-def step_refusal(code: Code, disk: int, steps: list[Step]) -> Optional[Refusal]:
-    """The first faulty step's refusal, in each step 17, 18, 19."""
+def step_refusal(code: Code, disk: int, wanted: Sequence[int], steps: list[Step]) -> Optional[Refusal]:
+    """The first faulty step's refusal, in each step 17, 18, 19. A lost place that isn't wanted stays unfilled."""
     unfilled = set(lost_places(code, disk))
     for number, (kind, target, source) in enumerate(steps):
         if kind > ADD or max(target, source) >= code.symbols or (kind == CLEAR and source != 0):
             return Refusal(17, number)
-        if target not in lost_places(code, disk):
+        if target not in wanted:
             return Refusal(18, number)
         used = {CLEAR: set(), COPY: {source}, ADD: {target, source}}[kind]
         if used & unfilled:
@@ -104,14 +142,13 @@ def step_refusal(code: Code, disk: int, steps: list[Step]) -> Optional[Refusal]:
     return None
 
 
-def end_refusal(code: Code, disk: int, steps: list[Step]) -> Optional[Refusal]:
-    """20 over all rows, then 21 over all rows."""
-    targets = {step.target for step in steps}
-    unfilled = [row for row, place in enumerate(lost_places(code, disk)) if place not in targets]
+def end_refusal(code: Code, wanted: Sequence[int], steps: list[Step]) -> Optional[Refusal]:
+    """20 over all wanted symbols, then 21 over all of them. The place is a row of the disk."""
+    unfilled = set(wanted) - {step.target for step in steps}
     if unfilled:
-        return Refusal(20, min(unfilled))
-    wrong = wrong_rows(code, disk, steps)
-    return Refusal(21, min(wrong)) if wrong else None
+        return Refusal(20, min(unfilled) % code.height)
+    wrong = wrong_symbols(code, wanted, steps)
+    return Refusal(21, min(wrong) % code.height) if wrong else None
 
 
 # Trying a plan
@@ -145,30 +182,39 @@ def run(code: Code, size: int, steps: list[Step], stripe: bytes) -> bytes:
     return b"".join(symbol.to_bytes(size, "little") for symbol in symbols)
 
 
-def ruined(code: Code, size: int, disk: int, stripe: bytes) -> list[bytes]:
-    """The stripe with its lost strip zero, all ones, and mixed."""
-    length = code.height * size
+def with_symbols(size: int, symbols: Sequence[int], contents: bytes, stripe: bytes) -> bytes:
+    """The stripe with other contents in some symbols, one after the other."""
+    after = bytearray(stripe)
+    for turn, symbol in enumerate(symbols):
+        after[symbol * size : (symbol + 1) * size] = contents[turn * size : (turn + 1) * size]
+    return bytes(after)
+
+
+def ruined(size: int, wanted: Sequence[int], stripe: bytes) -> list[bytes]:
+    """The stripe with its wanted symbols zero, all ones, and mixed."""
+    length = len(wanted) * size
     contents = [bytes(length), b"\xff" * length, bytes((i * i + 91 * i + 7) % 251 for i in range(length))]
-    parts = strips(code, size, stripe)
-    return [b"".join(parts[:disk] + [content] + parts[disk + 1 :]) for content in contents]
+    return [with_symbols(size, wanted, content, stripe) for content in contents]
 
 
-def wrong_rows(code: Code, disk: int, steps: list[Step]) -> set[int]:
-    """The rows of the disk that differ from the encoding for some pattern and some ruin."""
+def wrong_symbols(code: Code, wanted: Sequence[int], steps: list[Step]) -> set[int]:
+    """The wanted symbols that differ from the encoding for some pattern and some ruin."""
     size, data = trial_data(code.data_symbols)
     stripe = encoding(code, size, data)
     wrong = set()
-    for start in ruined(code, size, disk, stripe):
+    for start in ruined(size, wanted, stripe):
         after = run(code, size, steps, start)
-        for row, place in enumerate(lost_places(code, disk)):
-            if after[place * size : (place + 1) * size] != stripe[place * size : (place + 1) * size]:
-                wrong.add(row)
+        for symbol in wanted:
+            if after[symbol * size : (symbol + 1) * size] != stripe[symbol * size : (symbol + 1) * size]:
+                wrong.add(symbol)
     return wrong
 
 
 # The program's own test
 
 P2 = bytes.fromhex("06010402040003 0400 010002 020004 010102 020107")
+ROW_1 = bytes.fromhex("06020402040002 0101 0200 010102 020107")
+"""Edition 2 of the second half of P2: row 1 is wanted alone."""
 
 
 def through(code: Code, lost: int, parity: int) -> list[Step]:
@@ -221,8 +267,44 @@ def test_trials() -> None:
     assert check(sheet_of(SQUARE), 0, cached) == 4
     assert check(sheet_of(row_diagonal(3)), 0, cached) == Refusal(21, 0)
     wide = Code(4, 2, 64, tuple(row << 60 for row in SQUARE.rows))
-    assert wrong_rows(wide, 0, steps) == set()
-    assert wrong_rows(wide, 0, steps[:3]) == {1} and wrong_rows(wide, 0, steps[1:]) == {0}
+    assert wrong_symbols(wide, [0, 1], steps) == set()
+    assert wrong_symbols(wide, [0, 1], steps[:3]) == {1} and wrong_symbols(wide, [0, 1], steps[1:]) == {0}
+    assert wrong_symbols(wide, [1], steps[:2]) == {1} and wrong_symbols(wide, [0], steps[:2]) == set()
+
+
+def test_lists() -> None:
+    """Single parity of three rows: disk 1 is symbols 3 to 5, disk 2 is the parity."""
+    code = single_parity(2, 3)
+    sheet, rows = sheet_of(code), [through(code, 3 + row, 6 + row) for row in range(3)]
+    for listed in ([3], [5], [3, 5], [3, 4, 5]):
+        steps = [step for symbol in listed for step in rows[symbol - 3]]
+        assert check(sheet, 1, plan_sheet(code, 1, steps, listed=listed)) == 2 * len(listed)
+    bad = {(): 0, (3, 4, 5, 3): 0, (2,): 0, (6,): 0, (9,): 0, (255,): 0, (3, 3): 1, (4, 3): 1, (3, 6): 1, (3, 5, 4): 2, (5, 4, 2): 1}
+    for listed, place in bad.items():
+        assert check(sheet, 1, plan_sheet(code, 1, [], listed=listed)) == Refusal(23, place)
+    outer = rows[0] + rows[2]
+    assert check(sheet, 1, plan_sheet(code, 1, outer, listed=[3])) == Refusal(18, 2)
+    assert check(sheet, 1, plan_sheet(code, 1, [Step(COPY, 3, 4)], listed=[3])) == Refusal(19, 0)
+    assert check(sheet, 1, plan_sheet(code, 1, outer + [Step(ADD, 5, 3), Step(ADD, 5, 3)], listed=[3, 5])) == 4
+    assert check(sheet, 1, plan_sheet(code, 1, rows[0], listed=[3, 5])) == Refusal(20, 2)
+    assert check(sheet, 1, plan_sheet(code, 1, outer[:3], listed=[3, 5])) == Refusal(21, 2)
+    assert check(sheet, 1, plan_sheet(code, 1, outer, 3, [3, 5])) == Refusal(22, 4)
+    half = Code(2, 2, 2, (1, 2, 0, 2))
+    assert check(sheet_of(half), 0, plan_sheet(half, 0, [Step(COPY, 1, 3)], listed=[1])) == 1
+
+
+def test_edition_2() -> None:
+    sheet, step = sheet_of(SQUARE), bytes([COPY, 1, 2])
+    assert check(sheet, 0, ROW_1) == 2
+    assert all(check(sheet, 0, ROW_1[:length]) == Refusal(11) for length in range(len(ROW_1)))
+    assert check(sheet, 0, ROW_1 + b"\0") == Refusal(12)
+    assert all(check(sheet, 0, changed(ROW_1, 1, edition)) == Refusal(14) for edition in (0, 3, 255))
+    assert check(sheet, 0, changed(ROW_1, 7, 255)) == Refusal(11)
+    assert check(sheet, 0, ROW_1[:8] + b"\1\1\4" + step * 1025) == Refusal(13)
+    assert check(sheet, 0, ROW_1[:8] + b"\2\1\4" + step * 1025) == Refusal(13)
+    assert check(sheet, 0, ROW_1[:8] + b"\2\0\4" + step) == Refusal(23, 0)
+    assert check(sheet, 0, changed(ROW_1, 5, 1)) == check(sheet, 1, ROW_1) == Refusal(16)
+    assert check(sheet, 0, ROW_1[:9] + b"\0\4" + ROW_1[11:] + bytes([COPY, 1, 1]) * 1022) == 2
 
 
 if __name__ == "__main__":
@@ -230,4 +312,6 @@ if __name__ == "__main__":
     test_liberation()
     test_limits()
     test_trials()
+    test_lists()
+    test_edition_2()
     print("second program's checker: ok")

@@ -1,9 +1,9 @@
 """The second program's desk: what the desk prints for an input.
 
-    python3 tests/second_desk.py     runs its own test, on the worked cases of document 01
+    python3 tests/second_desk.py     runs its own test, on the worked cases of document 01 and on a list of wanted symbols
 """
 from second import SQUARE, Refusal, read_code, sheet_of
-from second_checker import P2, check
+from second_checker import P2, ROW_1, check
 
 
 def desk(given: bytes) -> str:
@@ -39,6 +39,13 @@ def test_worked_cases() -> None:
     assert desk(past_the_end) == "code 4 2 4\ndisk 0\nrefused 11 at 0\n"
 
 
+def test_edition_2() -> None:
+    sheet = sheet_of(SQUARE)
+    assert desk(desk_input(0, sheet, ROW_1)) == "code 4 2 4\ndisk 0\naccepted\nreads 2\n"
+    assert desk(desk_input(0, sheet, ROW_1[:7] + b"\2\1\1" + ROW_1[9:])) == "code 4 2 4\ndisk 0\nrefused 23 at 1\n"
+
+
 if __name__ == "__main__":
     test_worked_cases()
+    test_edition_2()
     print("second program's desk: ok")

@@ -1,7 +1,7 @@
-"""The second program's planner: what planning may answer, worked out anew.
+"""The second program's planner: what planning may answer, with a list of wanted symbols or without one, worked out anew.
 
-Which plan or which pattern is given is free, so it makes neither. It says whether a disk can be rebuilt, by the echelon form of
-the surviving rows, and judges what was given: a plan by running it on stripes, a pattern by encoding its bytes.
+Which plan or which pattern is given is free, so it makes neither. It says whether the wanted symbols can be rebuilt, by the echelon form
+of the surviving rows, and judges what was given: a plan by running it on stripes, a pattern by encoding its bytes.
 
     python3 tests/second_planner.py     runs its own test, on the worked cases of document 01 and on answers that are wrong; then it
                                         judges crates/planvectors/stdout, line by line, against the records of crates/planvectors/stdin
@@ -13,23 +13,27 @@ from random import Random
 from typing import Iterable, NamedTuple, Optional
 
 from second import SQUARE, Code, Refusal, changed, encoding, liberation, rank, read_code, row_diagonal, sheet_of
-from second_checker import ADD, CLEAR, COPY, P2, Step, check, lost_places, plan_sheet, ruined, run, step_count, steps_of
+from second_checker import ADD, CLEAR, COPY, P2, ROW_1, Listed, Step, check, list_refusal, listed_in, lost_places, plan_sheet, ruined, run
+from second_checker import step_count, steps_of, wanted_symbols
 
 CRATE = Path(__file__).resolve().parent.parent / "crates" / "planvectors"
-BUFFER = 3081
-"""The bytes that a plan buffer has at least."""
+BUFFER, LIST_BUFFER = 3081, 3114
+"""The bytes that a plan buffer has at least, without a list and with one."""
 
 RANDOM = Random(3)
 
 
-def planning_refusal(sheet: bytes, disk: int, buffer_length: int) -> Optional[Refusal]:
-    """The order: code sheet, 7, 34."""
+def planning_refusal(sheet: bytes, disk: int, listed: Listed, buffer_length: int) -> Optional[Refusal]:
+    """The order: code sheet, 7, 23, 34. A whole disk is never a bad list."""
     code = read_code(sheet)
     if isinstance(code, Refusal):
         return code
     if disk >= code.disks:
         return Refusal(7)
-    return Refusal(34) if buffer_length < BUFFER else None
+    refusal = list_refusal(code, disk, wanted_symbols(code, disk, listed))
+    if refusal:
+        return refusal
+    return Refusal(34) if buffer_length < (BUFFER if listed is None else LIST_BUFFER) else None
 
 
 # Whether there is a plan
@@ -51,11 +55,14 @@ def surviving_rows(code: Code, disk: int) -> list[int]:
     return [row for symbol, row in enumerate(code.rows) if symbol not in lost_places(code, disk)]
 
 
-def can_be_rebuilt(code: Code, disk: int) -> bool:
-    """Whether no lost row raises the rank of the surviving rows."""
+def wanted_rows(code: Code, disk: int, listed: Listed) -> list[int]:
+    return [code.rows[symbol] for symbol in wanted_symbols(code, disk, listed)]
+
+
+def can_be_rebuilt(code: Code, disk: int, listed: Listed = None) -> bool:
+    """Whether no wanted row raises the rank of the surviving rows."""
     form = echelon_form(surviving_rows(code, disk), code.data_symbols)
-    lost = [code.rows[place] for place in lost_places(code, disk)]
-    return all(len(echelon_form(form + [row], code.data_symbols)) == len(form) for row in lost)
+    return all(len(echelon_form(form + [row], code.data_symbols)) == len(form) for row in wanted_rows(code, disk, listed))
 
 
 # What was given
@@ -68,24 +75,27 @@ def most_steps(code: Code) -> int:
     return code.height * (code.symbols - code.height)
 
 
-def judge_plan(sheet: bytes, disk: int, plan: bytes, reads: int) -> Fault:
-    """Whether planning may give a plan with this read count: it is accepted, short enough, and restores stripes of any length."""
+def judge_plan(sheet: bytes, disk: int, plan: bytes, reads: int, listed: Listed = None) -> Fault:
+    """Whether planning may give a plan with this read count: it is accepted, wants what was asked for, is short enough, and
+    restores stripes of any length."""
     accepted = check(sheet, disk, plan)
     if accepted != reads:
         return f"a check answers {accepted}, not {reads} reads"
+    if listed_in(plan) != (None if listed is None else bytes(listed)):
+        return "another list than the one that was given"
     code = read_code(sheet)
     if step_count(plan) > most_steps(code):
         return f"{step_count(plan)} steps, above {most_steps(code)}"
     for size in (1, 2, 5, 16, 33):
         stripe = encoding(code, size, random_bytes(code.data_symbols * size))
-        for start in ruined(code, size, disk, stripe):
+        for start in ruined(size, wanted_symbols(code, disk, listed), stripe):
             if run(code, size, steps_of(plan), start) != stripe:
                 return f"a stripe of symbols of {size} bytes is not restored"
     return None
 
 
-def judge_pattern(sheet: bytes, disk: int, pattern: int) -> Fault:
-    """Whether a pattern is a good one: its stripe is zero on all survivors and not on the lost disk, at any symbol length."""
+def judge_pattern(sheet: bytes, disk: int, pattern: int, listed: Listed = None) -> Fault:
+    """Whether a pattern is a good one: its stripe is zero on all survivors and not in all wanted symbols, at any symbol length."""
     code = read_code(sheet)
     if not 0 < pattern < 2**code.data_symbols:
         return f"pattern {pattern} is 0 or has a bit at K or above"
@@ -95,8 +105,8 @@ def judge_pattern(sheet: bytes, disk: int, pattern: int) -> Fault:
         start, end = disk * code.height * size, (disk + 1) * code.height * size
         if any(stripe[:start] + stripe[end:]):
             return f"the stripe of pattern {pattern} is not zero on a survivor"
-        if not any(stripe[start:end]):
-            return f"the stripe of pattern {pattern} is zero on the lost disk"
+        if not any(any(stripe[s * size : (s + 1) * size]) for s in wanted_symbols(code, disk, listed)):
+            return f"the stripe of pattern {pattern} is zero in the wanted symbols"
     return None
 
 
@@ -108,7 +118,8 @@ def random_bytes(length: int) -> bytes:
 
 
 class Asked(NamedTuple):
-    """A record: a code sheet, a buffer and some disks, one after the other. crates/planvectors/src/main.rt describes its bytes."""
+    """A record: a code sheet, a buffer, some disks, one after the other, and perhaps a list of wanted symbols. crates/planvectors/src/main.rt
+    describes its bytes."""
 
     sheet: bytes
     disk: int
@@ -116,10 +127,13 @@ class Asked(NamedTuple):
     buffer_length: int = BUFFER
     seed: int = 0
     shown: bool = False
+    listed: Optional[bytes] = None
 
     def record(self) -> bytes:
         numbers = bytes([self.shown, self.seed]) + self.buffer_length.to_bytes(2, "little") + bytes([self.count])
-        body = numbers + self.disk.to_bytes(8, "little") + self.sheet
+        listed = self.listed or b""
+        section = bytes([self.listed is not None]) + len(listed).to_bytes(2, "little") + listed
+        body = numbers + self.disk.to_bytes(8, "little") + section + self.sheet
         return len(body).to_bytes(2, "little") + body
 
     def each(self) -> list["Asked"]:
@@ -132,8 +146,10 @@ def records_in(given: bytes) -> list[Asked]:
     while given:
         length = int.from_bytes(given[:2], "little")
         body, given = given[2 : 2 + length], given[2 + length :]
-        disk = int.from_bytes(body[5:13], "little")
-        found.append(Asked(body[13:], disk, body[4], int.from_bytes(body[2:4], "little"), body[1], body[0] == 1))
+        disk, buffer_length = int.from_bytes(body[5:13], "little"), int.from_bytes(body[2:4], "little")
+        behind = 16 + int.from_bytes(body[14:16], "little")
+        listed = body[16:behind] if body[13] == 1 else None
+        found.append(Asked(body[behind:], disk, body[4], buffer_length, body[1], body[0] == 1, listed))
     return found
 
 
@@ -143,7 +159,7 @@ def records_in(given: bytes) -> list[Asked]:
 def judge_line(asked: Asked, line: str) -> Fault:
     """Whether a line may stand for a question."""
     words = line.split(" ")
-    refusal = planning_refusal(asked.sheet, asked.disk, asked.buffer_length)
+    refusal = planning_refusal(asked.sheet, asked.disk, asked.listed, asked.buffer_length)
     if refusal is not None:
         expected = f"refused {refusal.number} at {refusal.place} same"
         return None if line == expected else f"not '{expected}'"
@@ -156,31 +172,32 @@ def judge_line(asked: Asked, line: str) -> Fault:
 
 def judge_plan_line(asked: Asked, words: list[str]) -> Fault:
     code = read_code(asked.sheet)
-    if not can_be_rebuilt(code, asked.disk):
-        return "a plan, though the disk can't be rebuilt"
+    if not can_be_rebuilt(code, asked.disk, asked.listed):
+        return "a plan, though a wanted symbol can't be rebuilt"
     if len(words) != 6 + asked.shown or words[3:6] != ["accepted", "behind-same", "restored"]:
         return "not a plan that is accepted and restores"
     length, reads = int(words[1]), int(words[2])
-    steps = (length - 9) // 3
-    if length != 9 + 3 * steps or not code.height <= steps <= most_steps(code):
+    head = 9 if asked.listed is None else 10 + len(asked.listed)
+    steps, rest = divmod(length - head, 3)
+    rows = wanted_rows(code, asked.disk, asked.listed)
+    if rest or not len(rows) <= steps <= most_steps(code):
         return f"a sheet of {length} bytes"
-    lost = [code.rows[place] for place in lost_places(code, asked.disk)]
-    if not rank(lost) <= reads <= min(steps, code.symbols - code.height):
+    if not rank(rows) <= reads <= min(steps, code.symbols - code.height):
         return f"{reads} reads in {steps} steps"
     if not asked.shown:
         return None
     plan = bytes.fromhex(words[6])
     if len(plan) != length:
         return f"{len(plan)} bytes shown, not {length}"
-    return judge_plan(asked.sheet, asked.disk, plan, reads)
+    return judge_plan(asked.sheet, asked.disk, plan, reads, asked.listed)
 
 
 def judge_pattern_line(asked: Asked, words: list[str]) -> Fault:
-    if can_be_rebuilt(read_code(asked.sheet), asked.disk):
-        return "a pattern, though the disk can be rebuilt"
+    if can_be_rebuilt(read_code(asked.sheet), asked.disk, asked.listed):
+        return "a pattern, though all wanted symbols can be rebuilt"
     if len(words) != 4 or words[2:] != ["same", "good"]:
         return "not a good pattern and nothing written"
-    return judge_pattern(asked.sheet, asked.disk, int(words[1]))
+    return judge_pattern(asked.sheet, asked.disk, int(words[1]), asked.listed)
 
 
 def judge_lines(questions: list[Asked], lines: list[str]) -> list[str]:
@@ -197,20 +214,30 @@ def judge_lines(questions: list[Asked], lines: list[str]) -> list[str]:
 
 SQUARE_SHEET = sheet_of(SQUARE)
 P8, P9 = Code(2, 1, 2, (1, 2)), Code(2, 1, 1, (0, 1))
+HALF = Code(2, 2, 2, (1, 2, 0, 2))
+"""Of disk 0, row 1 can be rebuilt and row 0 can't."""
+
+LOST = Code(2, 2, 2, (1, 2, 0, 0))
+"""Of disk 0, no row can be rebuilt."""
 
 
 def test_refusals() -> None:
-    assert planning_refusal(SQUARE_SHEET, 3, 3081) is None
-    assert planning_refusal(SQUARE_SHEET, 3, 3080) == planning_refusal(sheet_of(P8), 0, 0) == Refusal(34)
-    assert planning_refusal(SQUARE_SHEET, 4, 0) == planning_refusal(SQUARE_SHEET, 2**64 - 1, 3081) == Refusal(7)
-    assert planning_refusal(SQUARE_SHEET[:69], 4, 0) == Refusal(1)
-    assert planning_refusal(changed(SQUARE_SHEET, 22, 16), 4, 0) == Refusal(6, 2 * 64 + 4)
+    assert planning_refusal(SQUARE_SHEET, 3, None, 3081) is None
+    assert planning_refusal(SQUARE_SHEET, 3, None, 3080) == planning_refusal(sheet_of(P8), 0, None, 0) == Refusal(34)
+    assert planning_refusal(SQUARE_SHEET, 4, None, 0) == planning_refusal(SQUARE_SHEET, 2**64 - 1, None, 3081) == Refusal(7)
+    assert planning_refusal(SQUARE_SHEET[:69], 4, None, 0) == Refusal(1)
+    assert planning_refusal(changed(SQUARE_SHEET, 22, 16), 4, None, 0) == Refusal(6, 2 * 64 + 4)
+    assert planning_refusal(SQUARE_SHEET, 3, b"\6\7", 3114) is None
+    assert planning_refusal(SQUARE_SHEET, 3, b"\7", 3113) == Refusal(34)
+    for listed, place in [(b"", 0), (b"\6\7\7", 0), (bytes(256), 0), (b"\5", 0), (b"\10", 0), (b"\7\7", 1), (b"\7\6", 1)]:
+        assert planning_refusal(SQUARE_SHEET, 3, listed, 0) == Refusal(23, place)
+    assert planning_refusal(SQUARE_SHEET, 4, b"", 0) == Refusal(7) and planning_refusal(b"", 4, b"", 0) == Refusal(1)
 
 
-def has_good_pattern(code: Code, disk: int) -> bool:
+def has_good_pattern(code: Code, disk: int, listed: Listed = None) -> bool:
     """By trying every pattern."""
     sheet = sheet_of(code)
-    return any(judge_pattern(sheet, disk, pattern) is None for pattern in range(2**code.data_symbols))
+    return any(judge_pattern(sheet, disk, pattern, listed) is None for pattern in range(2**code.data_symbols))
 
 
 def test_echelon_form() -> None:
@@ -229,7 +256,11 @@ def test_echelon_form() -> None:
         assert len(form) == rank(list(rows)) and rank(list(rows) + form) == len(form)
         answers[can_be_rebuilt(code, disk)] += 1
         assert can_be_rebuilt(code, disk) != has_good_pattern(code, disk)
+        parts = [can_be_rebuilt(code, disk, [place]) for place in lost_places(code, disk)]
+        assert parts == [not has_good_pattern(code, disk, [place]) for place in lost_places(code, disk)]
+        assert can_be_rebuilt(code, disk) == all(parts)
     assert min(answers.values()) > 30
+    assert [can_be_rebuilt(HALF, 0, listed) for listed in ([0], [1], [0, 1], None)] == [False, True, False, False]
 
 
 def test_plans() -> None:
@@ -255,6 +286,24 @@ def test_plans() -> None:
     assert judge_plan(sheet_of(row_diagonal(3)), 0, plan_sheet(SQUARE, 0, [Step(COPY, 0, 6), Step(ADD, 0, 3)] + steps[2:]), 4)
 
 
+def test_plans_with_lists() -> None:
+    """Row 1 of the square code's disk 0, and the whole disk as a list."""
+    steps = steps_of(P2)
+    assert judge_plan(SQUARE_SHEET, 0, ROW_1, 2, [1]) is None
+    assert judge_plan(SQUARE_SHEET, 0, plan_sheet(SQUARE, 0, steps, listed=[0, 1]), 3, b"\0\1") is None
+    assert judge_plan(sheet_of(HALF), 0, plan_sheet(HALF, 0, [Step(COPY, 1, 3)], listed=[1]), 1, [1]) is None
+    wrong = [
+        ("a list, though none was given", plan_sheet(SQUARE, 0, steps, listed=[0, 1]), 3, None),
+        ("no list, though one was given", P2, 3, [0, 1]),
+        ("more than the list", plan_sheet(SQUARE, 0, steps, listed=[0, 1]), 3, [1]),
+        ("less than the list", ROW_1, 2, [0, 1]),
+        ("another list", ROW_1, 2, [0]),
+        ("too many steps", plan_sheet(SQUARE, 0, steps[2:] + [Step(COPY, 1, 1)] * 11, listed=[1]), 2, [1]),
+    ]
+    for why, plan, reads, listed in wrong:
+        assert judge_plan(SQUARE_SHEET, 0, plan, reads, listed) is not None, why
+
+
 def test_patterns() -> None:
     sheet = sheet_of(P8)
     assert judge_pattern(sheet, 0, 1) is None and judge_pattern(sheet, 1, 2) is None
@@ -270,6 +319,8 @@ def test_patterns() -> None:
     for why, code_sheet, disk, pattern in wrong:
         assert judge_pattern(code_sheet, disk, pattern) is not None, why
     assert all(judge_pattern(SQUARE_SHEET, 0, pattern) is not None for pattern in range(17)), "a disk that can be rebuilt"
+    assert judge_pattern(sheet_of(LOST), 0, 1, [0]) is None and judge_pattern(sheet_of(LOST), 0, 2, [0]) is not None
+    assert all(judge_pattern(sheet_of(LOST), 0, pattern, listed) is None for pattern in (1, 2, 3) for listed in ([0, 1], None))
 
 
 def test_lines() -> None:
@@ -305,11 +356,40 @@ def test_lines() -> None:
     ]
     for asked, line in wrong:
         assert judge_line(asked, line) is not None, line
-    asked = Asked(SQUARE_SHEET, 2**64 - 1, 1, 258, 255, True)
-    both = [asked, unsolvable._replace(count=2)]
-    assert records_in(b"".join(one.record() for one in both)) == both
-    assert [one.disk for one in both[1].each()] == [0, 1]
     assert judge_lines([unsolvable], []) and not judge_lines([unsolvable], ["pattern 1 same good"])
+
+
+def test_lines_with_lists() -> None:
+    row_1 = Asked(SQUARE_SHEET, 0, buffer_length=LIST_BUFFER, shown=True, listed=b"\1")
+    half = Asked(sheet_of(HALF), 0, buffer_length=LIST_BUFFER, listed=b"\1")
+    right = f"plan 17 2 accepted behind-same restored {ROW_1.hex()}"
+    assert judge_line(row_1, right) is None
+    assert judge_line(row_1._replace(buffer_length=LIST_BUFFER - 1), "refused 34 at 0 same") is None
+    assert judge_line(row_1._replace(listed=b"\1\0", buffer_length=0), "refused 23 at 1 same") is None
+    assert judge_line(half, "plan 14 1 accepted behind-same restored") is None
+    assert judge_line(half._replace(listed=None), "pattern 1 same good") is None
+    assert judge_line(half._replace(listed=b"\0\1"), "pattern 1 same good") is None
+    wrong = [
+        (row_1._replace(listed=None), right),
+        (row_1._replace(listed=b"\0"), right),
+        (row_1._replace(shown=False), "plan 15 2 accepted behind-same restored"),
+        (row_1._replace(shown=False), "plan 13 1 accepted behind-same restored"),
+        (row_1._replace(buffer_length=BUFFER), right),
+        (row_1._replace(listed=b""), right),
+        (row_1._replace(listed=b"\1\0"), "refused 23 at 0 same"),
+        (half._replace(listed=b"\0\1"), "plan 21 2 accepted behind-same restored"),
+        (half._replace(listed=b"\0\1"), "pattern 2 same good"),
+        (half, "pattern 1 same good"),
+    ]
+    for asked, line in wrong:
+        assert judge_line(asked, line) is not None, line
+
+
+def test_records() -> None:
+    large = Asked(SQUARE_SHEET, 2**64 - 1, 1, 258, 255, True)
+    asked = [large, Asked(sheet_of(P8), 0, 2), large._replace(listed=b""), large._replace(listed=bytes(300))]
+    assert records_in(b"".join(one.record() for one in asked)) == asked
+    assert [one.disk for one in asked[1].each()] == [0, 1]
 
 
 def judge_program() -> None:
@@ -324,14 +404,18 @@ def judge_program() -> None:
     kinds = Counter(line.split(" ")[0] for line in lines)
     shown = sum(asked.shown and line.startswith("plan") for asked, line in zip(questions, lines))
     counts = ", ".join(f"{kinds[kind]} {kind}" for kind in ("plan", "pattern", "refused"))
-    print(f"planning, as printed by crates/planvectors: {counts}, {shown} plans with their bytes: ok")
+    listed = sum(asked.listed is not None for asked in questions)
+    print(f"planning, as printed by crates/planvectors: {counts}, {listed} with a list, {shown} plans with their bytes: ok")
 
 
 if __name__ == "__main__":
     test_refusals()
     test_echelon_form()
     test_plans()
+    test_plans_with_lists()
     test_patterns()
     test_lines()
+    test_lines_with_lists()
+    test_records()
     print("second program's planner: ok")
     judge_program()

@@ -21,11 +21,12 @@ use Rattle.refusals.specs.declared.Refusal.the-variants.{
   PlanOfAnotherCode,
   PlanOfAnotherDisk,
   MalformedStep,
-  TargetNotLost,
+  TargetNotWanted,
   UnfilledPlaceUsed,
   NeverFilled,
   EndsWrong,
   WrongReadCount,
+  BadWantedList,
   SymbolLength,
   StripeLength,
   DataLength,
@@ -52,11 +53,12 @@ not-numbered-0 PlanSheetEdition = refl
 not-numbered-0 PlanOfAnotherCode = refl
 not-numbered-0 PlanOfAnotherDisk = refl
 not-numbered-0 (MalformedStep step) = refl
-not-numbered-0 (TargetNotLost step) = refl
+not-numbered-0 (TargetNotWanted step) = refl
 not-numbered-0 (UnfilledPlaceUsed step) = refl
 not-numbered-0 (NeverFilled row) = refl
 not-numbered-0 (EndsWrong row) = refl
 not-numbered-0 (WrongReadCount count) = refl
+not-numbered-0 (BadWantedList position) = refl
 not-numbered-0 SymbolLength = refl
 not-numbered-0 StripeLength = refl
 not-numbered-0 DataLength = refl

@@ -1,4 +1,4 @@
--- The worked cases that document 01 marks P, gathered in a single table under one claim, `AllRight table`.
+-- The worked cases that document 01 marks P, and cases of document 02, gathered in a single table under one claim, `AllRight table`.
 use mathlib.Core.Path.{_≡_}
 use mathlib.Core.List.{List, [], _∷_, _++_}
 use Prim.Native.Nat.{ℕ, suc, _≤_}
@@ -11,10 +11,11 @@ use Rattle.family_codes.specs.declared.Family.{Family}
 use Rattle.family_codes.specs.declared.Family.the-variants.{Liberation, RowDiagonal}
 use Rattle.gf2.specs.BitSets.{with}
 use Rattle.lines.specs.Lines.{deskText}
-use Rattle.planner.specs.Demand3.{CannotBeRebuilt, Promised}
+use Rattle.planner.specs.Demand3.{CannotBeRebuilt, IsPlan, Promised}
+use Rattle.planner.specs.Planning.{wholeDisk, listedOn}
 use Rattle.planner.specs.declared.Planned.{Planned}
 use Rattle.rebuild.specs.Rebuild.{stripeAfter}
-use Rattle.refusals.specs.declared.Refusal.the-variants.{TargetNotLost, UnfilledPlaceUsed, NeverFilled, EndsWrong, WrongReadCount}
+use Rattle.refusals.specs.declared.Refusal.the-variants.{PlanSheetTooShort, PlanSheetCount, PlanSheetEdition, TargetNotWanted, UnfilledPlaceUsed, NeverFilled, EndsWrong, WrongReadCount, BadWantedList}
 use Rattle.sheets.specs.CodeReading.{reading}
 use Rattle.sheets.specs.CodeSheets.{rowBytes}
 use Rattle.plans.specs.declared.Checked.the-variants as Answers
@@ -35,6 +36,14 @@ square = sheet 4 2 4 8 (1 ∷ 2 ∷ 4 ∷ 8 ∷ 5 ∷ 10 ∷ 9 ∷ 6 ∷ [])
 abbrev pub squarePlan : ℕ → ℕ → ℕ → ℕ → List ℕ
 squarePlan reads kind first last =
     6 ∷ 1 ∷ 4 ∷ 2 ∷ 4 ∷ 0 ∷ reads ∷ 4 ∷ 0 ∷ kind ∷ first ∷ 2 ∷ 2 ∷ 0 ∷ 4 ∷ 1 ∷ 1 ∷ 2 ∷ 2 ∷ 1 ∷ last ∷ []
+
+-- An edition 2 plan of disk 0 of the square code, from its read count on
+abbrev pub wantedPlan : ℕ → List ℕ → List ℕ
+wantedPlan reads rest = 6 ∷ 2 ∷ 4 ∷ 2 ∷ 4 ∷ 0 ∷ reads ∷ rest
+
+-- The steps of P2 that make symbol 0: one copy, one add, with their count
+abbrev pub stepsOfSymbol0 : List ℕ
+stepsOfSymbol0 = 2 ∷ 0 ∷ 1 ∷ 0 ∷ 2 ∷ 2 ∷ 0 ∷ 4 ∷ []
 
 -- `code 4 2 4`, `disk 0`, `accepted`, `reads 3`
 abbrev pub squareLines : List ℕ
@@ -68,6 +77,8 @@ pub data Case : Type 0 where
   pattern-of : List ℕ → ℕ → ℕ → Case
   -- Planning for a code sheet and a disk can only answer so: no other answer keeps what the call promises
   plans : List ℕ → ℕ → Planned → Case
+  -- Planning with a list of wanted symbols can only answer a plan
+  plans-wanted : List ℕ → ℕ → List ℕ → Case
 
 -- The entries of a list from an index on, as many as there are on the right
 abbrev pub From : List ℕ → ℕ → List ℕ → Type 0
@@ -81,9 +92,11 @@ Right (answers codeSheet disk planSheet answer) = checked codeSheet disk planShe
 Right (rebuilds codeSheet disk planSheet L before after) = stripeAfter codeSheet disk planSheet L before ≡ after
 Right (prints input text) = deskText input ≡ text
 Right (rows-from family at rows) = From (familyCode family .rows) at rows
-Right (pattern-of codeSheet disk pattern) = CannotBeRebuilt (reading codeSheet .code) disk pattern
+Right (pattern-of codeSheet disk pattern) = CannotBeRebuilt (reading codeSheet .code) (wholeDisk disk) pattern
 Right (plans codeSheet disk answer) =
-    (before after : List ℕ) (given : Planned) → 3081 ≤ length before → Promised codeSheet disk before after given → given ≡ answer
+    (before after : List ℕ) (given : Planned) → 3081 ≤ length before → Promised codeSheet (wholeDisk disk) before after given → given ≡ answer
+Right (plans-wanted codeSheet disk list) =
+    (before after : List ℕ) (given : Planned) → 3114 ≤ length before → Promised codeSheet (listedOn disk list) before after given → IsPlan given
 
 abbrev pub AllRight : List Case → Type 0
 AllRight [] = Unit {0}
@@ -100,8 +113,13 @@ apart = sheet 2 1 2 2 (1 ∷ 2 ∷ [])
 unfoldable pub emptyRow : List ℕ
 emptyRow = sheet 2 1 1 2 (0 ∷ 1 ∷ [])
 
-unfoldable pub table : List Case
-table =
+-- Two disks of two symbols, rows 1, 2, 1, 0: of disk 0, row 0 stands on disk 1 too, and nothing of row 1
+unfoldable pub half : List ℕ
+half = sheet 2 2 2 4 (1 ∷ 2 ∷ 1 ∷ 0 ∷ [])
+
+-- Document 01
+abbrev pub rulesCases : List Case
+rulesCases =
     -- P1
     encodes square 1 (0x11 ∷ 0x22 ∷ 0x44 ∷ 0x88 ∷ []) (0x11 ∷ 0x22 ∷ 0x44 ∷ 0x88 ∷ 0x55 ∷ 0xAA ∷ 0x99 ∷ 0x66 ∷ [])
     -- P2: accepted, 3 reads
@@ -119,7 +137,7 @@ table =
     -- P5: first kind 2
     ∷ answers square 0 (squarePlan 3 2 0 7) (Answers.Refused (UnfilledPlaceUsed 0))
     -- P6: first target 02
-    ∷ answers square 0 (squarePlan 3 1 2 7) (Answers.Refused (TargetNotLost 0))
+    ∷ answers square 0 (squarePlan 3 1 2 7) (Answers.Refused (TargetNotWanted 0))
     -- P7: no steps
     ∷ answers square 0 (6 ∷ 1 ∷ 4 ∷ 2 ∷ 4 ∷ 0 ∷ 3 ∷ 0 ∷ 0 ∷ []) (Answers.Refused (NeverFilled 0))
     -- P8: no plan; the pattern is 1
@@ -134,3 +152,37 @@ table =
     ∷ rows-from (Liberation 5 5) 31 (withBits (1 ∷ 7 ∷ 13 ∷ 18 ∷ 19 ∷ 20 ∷ []) ∷ [])
     ∷ rows-from (Liberation 5 5) 34 (withBits (4 ∷ 5 ∷ 10 ∷ 11 ∷ 17 ∷ 23 ∷ []) ∷ [])
     ∷ []
+
+-- Document 02, §3: disk 0 of the square code, whose symbols are 0 and 1, with a list of wanted symbols
+abbrev pub wantedCases : List Case
+wantedCases =
+    -- symbol 0 alone: accepted, 2 reads
+    answers square 0 (wantedPlan 2 (1 ∷ 0 ∷ stepsOfSymbol0)) (Answers.Accepted 2)
+    -- .. and symbol 1, lost and not wanted, keeps its byte
+    ∷ rebuilds square 0 (wantedPlan 2 (1 ∷ 0 ∷ stepsOfSymbol0)) 1
+    (0xFF ∷ 0xEE ∷ 0x44 ∷ 0x88 ∷ 0x55 ∷ 0xAA ∷ 0x99 ∷ 0x66 ∷ [])
+    (0x11 ∷ 0xEE ∷ 0x44 ∷ 0x88 ∷ 0x55 ∷ 0xAA ∷ 0x99 ∷ 0x66 ∷ [])
+    -- a target that isn't wanted
+    ∷ answers square 0 (wantedPlan 2 (1 ∷ 1 ∷ stepsOfSymbol0)) (Answers.Refused (TargetNotWanted 0))
+    -- a source that is lost and not wanted
+    ∷ answers square 0 (wantedPlan 2 (1 ∷ 0 ∷ 1 ∷ 0 ∷ 1 ∷ 0 ∷ 1 ∷ [])) (Answers.Refused (UnfilledPlaceUsed 0))
+    -- row 1 is wanted: never filled, and ending wrong
+    ∷ answers square 0 (wantedPlan 0 (1 ∷ 1 ∷ 0 ∷ 0 ∷ [])) (Answers.Refused (NeverFilled 1))
+    ∷ answers square 0 (wantedPlan 1 (1 ∷ 1 ∷ 1 ∷ 0 ∷ 1 ∷ 1 ∷ 3 ∷ [])) (Answers.Refused (EndsWrong 1))
+    -- lists: none, more than r, an equal neighbour, a falling one, a symbol of another disk
+    ∷ answers square 0 (wantedPlan 2 (0 ∷ 0 ∷ 0 ∷ [])) (Answers.Refused (BadWantedList 0))
+    ∷ answers square 0 (wantedPlan 2 (3 ∷ 0 ∷ 0 ∷ 1 ∷ 0 ∷ 0 ∷ [])) (Answers.Refused (BadWantedList 0))
+    ∷ answers square 0 (wantedPlan 2 (2 ∷ 0 ∷ 0 ∷ 0 ∷ 0 ∷ [])) (Answers.Refused (BadWantedList 1))
+    ∷ answers square 0 (wantedPlan 2 (2 ∷ 1 ∷ 0 ∷ 0 ∷ 0 ∷ [])) (Answers.Refused (BadWantedList 1))
+    ∷ answers square 0 (wantedPlan 2 (1 ∷ 2 ∷ 0 ∷ 0 ∷ [])) (Answers.Refused (BadWantedList 0))
+    -- the order: a list beyond the sheet's end, then 1,025 steps, then the list
+    ∷ answers square 0 (wantedPlan 2 (200 ∷ 1 ∷ 0 ∷ 1 ∷ 4 ∷ [])) (Answers.Refused PlanSheetTooShort)
+    ∷ answers square 0 (wantedPlan 2 (2 ∷ 1 ∷ 0 ∷ 1 ∷ 4 ∷ [])) (Answers.Refused PlanSheetCount)
+    -- another edition
+    ∷ answers square 0 (6 ∷ 3 ∷ 4 ∷ 2 ∷ 4 ∷ 0 ∷ 2 ∷ 0 ∷ 0 ∷ []) (Answers.Refused PlanSheetEdition)
+    -- of a disk that can't be rebuilt whole, the row that can
+    ∷ plans-wanted half 0 (0 ∷ [])
+    ∷ []
+
+unfoldable pub table : List Case
+table = rulesCases ++ wantedCases

@@ -1,103 +1,121 @@
--- The lost strip as a list of symbols, the survivors among the rows, and how many steps a plan can take. Assumes nothing.
+-- The symbols of a set as a list, the survivors among the rows, and how many steps a plan can take. Assumes nothing.
 use mathlib.Core.Path.{_≡_, refl, sym, ap, ap₂, _∙_, subst}
-use mathlib.Core.Bool.{Bool, true, false, cond, not, _&&_}
-use mathlib.Core.List.{List, _∷_, List·Memᴰ, List·Memᴰ·head, List·Memᴰ·tail}
+use mathlib.Core.Bool.{Bool, true, false, cond, not, _&&_, true≢false}
+use mathlib.Core.List.{List, _∷_, List·Memᴰ, List·Memᴰ·head, List·Memᴰ·tail, List·Memᴰ·cases-cons, List·Memᴰ·not-nil}
+use mathlib.Core.Logic.{⊎-elim}
 use Prim.Native.Nat.{ℕ, zero, suc, _+_, _-_, _*_, _≤_, _<_}
 use native.Mathlib.Omega.{arith}
 use native.Mathlib.Decide.{decLe, decLt}
 use native.Mathlib.Nat.{mul-le-mul}
+use lib.Dec.{ltb}
 use lib.ListN.{length, getD, take}
 use lib.Seq.{ext-getD, getD-take, length-take-le}
-use borrow.Author.Tests.{lt-ltb, le-ltb, lt-leb, le-leb}
+use borrow.Author.Tests.{lt-ltb, le-ltb}
 use Rattle.plans.specs.Judgement.{lost, survives}
-use Rattle.plans.proofs.JudgementLaws.{row-is-lost, lost-in-strip}
 use Rattle.codes.specs.Layouts.{symbolsOf, firstSymbol, heightOf, onDisk}
 use Rattle.codes.specs.declared.Layout.{Layout}
 use Rattle.codes.proofs.LayoutLaws.{strip-within, onDisk-above, onDisk-before}
+use Rattle.gf2.specs.Plans.{Within}
 use Rattle.gf2.specs.SubsetPlans.{survivors, countKnown}
+use Rattle.gf2.proofs.Booleans.{bool-cases}
 use Rattle.gf2.proofs.PlanningLaws.{getD-survivors, length-survivors}
 use Rattle.gf2.proofs.SubsetPlanLaws.{countKnown-add, countKnown-all, countKnown-none}
-use Rattle.writing.specs.PlanSheets.{symbolsFrom, lostStrip}
-use Rattle.planner.specs.Work.{inStretch}
+use Rattle.writing.specs.PlanSheets.{symbolsIn}
+use Rattle.planner.specs.Work.{FilledTo}
 
 -- ------------------------------------------------------------------
--- So many symbols from one on
+-- The symbols of a set
 
--- Each number of the stretch is among the symbols
-pub in-symbolsFrom : (first count t : ℕ) → first ≤ t → t < first + count → List·Memᴰ t (symbolsFrom first count)
-unfolding symbolsFrom
-in-symbolsFrom first zero t a b = absurd (omega arith)
-in-symbolsFrom first (suc count) t a b = by-side (λ h. in-symbolsFrom (suc first) count t h (omega arith)) (decLt first t)
+module _ (set : ℕ → Bool) where
+  -- Each number of the set is among its symbols
+  pub in-symbolsIn : (first count t : ℕ) → first ≤ t → t < first + count → set t ≡ true → List·Memᴰ t (symbolsIn set first count)
+  unfolding symbolsIn
+  in-symbolsIn first zero t a b in-set = absurd (omega arith)
+  in-symbolsIn first (suc count) t a b in-set =
+      by-side (λ h. in-symbolsIn (suc first) count t h (omega arith) in-set) (decLt first t) (set first) refl
+    where
+      by-side : (first < t → List·Memᴰ t (symbolsIn set (suc first) count)) → Dec (first < t) → (c : Bool) → set first ≡ c
+          → List·Memᴰ t (cond c (first ∷ symbolsIn set (suc first) count) (symbolsIn set (suc first) count))
+      by-side later (yes h) true q = List·Memᴰ·tail (later h)
+      by-side later (yes h) false q = later h
+      by-side later (no h) true q =
+          let same : t ≡ first = omega arith in
+          List·Memᴰ·head same
+      by-side later (no h) false q =
+          let same : t ≡ first = omega arith in
+          absurd (true≢false (sym in-set ∙ ap set same ∙ q))
+
+  -- Each of its symbols is in the set
+  pub symbolsIn-in : (first count t : ℕ) → List·Memᴰ t (symbolsIn set first count) → set t ≡ true
+  unfolding symbolsIn
+  symbolsIn-in first zero t m = absurd (List·Memᴰ·not-nil m)
+  symbolsIn-in first (suc count) t m = by-first (symbolsIn-in (suc first) count t) (set first) refl m
+    where
+      by-first : (List·Memᴰ t (symbolsIn set (suc first) count) → set t ≡ true) → (c : Bool) → set first ≡ c
+          → List·Memᴰ t (cond c (first ∷ symbolsIn set (suc first) count) (symbolsIn set (suc first) count)) → set t ≡ true
+      by-first later true q member = ⊎-elim (λ here. ap set here ∙ q) later (List·Memᴰ·cases-cons member)
+      by-first later false q member = later member
+
+  -- There are as many as are counted
+  pub length-symbolsIn : (first count : ℕ) → length (symbolsIn set first count) ≡ countKnown set first count
+  unfolding symbolsIn countKnown
+  length-symbolsIn first zero = refl
+  length-symbolsIn first (suc count) =
+      let rest = symbolsIn set (suc first) count in
+      bool-cases (λ c. length (cond c (first ∷ rest) rest) ≡ cond c 1 0 + countKnown set (suc first) count)
+      (omega (arith, length-symbolsIn (suc first) count)) (omega (arith, length-symbolsIn (suc first) count)) (set first)
+
+-- A part of a set has no more
+pub countKnown-within : (part whole : ℕ → Bool) → Within part whole → (first count : ℕ) → countKnown part first count ≤ countKnown whole first count
+unfolding countKnown
+countKnown-within part whole within first zero = omega arith
+countKnown-within part whole within first (suc count) =
+    by-first (countKnown-within part whole within (suc first) count) (part first) (whole first) (within first)
   where
-    by-side : (first < t → List·Memᴰ t (symbolsFrom (suc first) count)) → Dec (first < t) → List·Memᴰ t (first ∷ symbolsFrom (suc first) count)
-    by-side later (yes h) = List·Memᴰ·tail (later h)
-    by-side later (no h) =
-        let same : t ≡ first = omega arith in
-        List·Memᴰ·head same
+    by-first : countKnown part (suc first) count ≤ countKnown whole (suc first) count → (a b : Bool) → (a ≡ true → b ≡ true)
+        → cond a 1 0 + countKnown part (suc first) count ≤ cond b 1 0 + countKnown whole (suc first) count
+    by-first later true true h = omega arith
+    by-first later true false h = absurd (true≢false (sym (h refl)))
+    by-first later false true h = omega arith
+    by-first later false false h = omega arith
 
--- Each of the symbols is a number of the stretch
-pub symbolsFrom-between : (first count t : ℕ) → List·Memᴰ t (symbolsFrom first count) → (first ≤ t) × (t < first + count)
-unfolding symbolsFrom
-symbolsFrom-between first (suc count) t (List·Memᴰ·head e) = (omega arith, omega arith)
-symbolsFrom-between first (suc count) t (List·Memᴰ·tail m) =
-    let later = symbolsFrom-between (suc first) count t m in
-    (omega arith, omega arith)
-
-pub length-symbolsFrom : (first count : ℕ) → length (symbolsFrom first count) ≡ count
-unfolding symbolsFrom
-length-symbolsFrom first zero = refl
-length-symbolsFrom first (suc count) = ap suc (length-symbolsFrom (suc first) count)
+-- Numbers that are in one of two sets each are in all as many as there are
+countKnown-halves : (some others : ℕ → Bool) (first count : ℕ) → ((s : ℕ) → s < first + count → others s ≡ not (some s))
+    → countKnown some first count + countKnown others first count ≡ count
+unfolding countKnown
+countKnown-halves some others first zero halves = refl
+countKnown-halves some others first (suc count) halves =
+    by-first (countKnown-halves some others (suc first) count (λ s h. halves s (omega arith))) (some first) (others first) (halves first (omega arith))
+  where
+    by-first : countKnown some (suc first) count + countKnown others (suc first) count ≡ count → (a b : Bool) → b ≡ not a
+        → cond a 1 0 + countKnown some (suc first) count + (cond b 1 0 + countKnown others (suc first) count) ≡ suc count
+    by-first later true true e = absurd (true≢false e)
+    by-first later true false e = omega arith
+    by-first later false true e = omega arith
+    by-first later false false e = absurd (true≢false (sym e))
 
 -- ------------------------------------------------------------------
--- The lost strip
+-- The lost disk
 
 module _ (layout : Layout) (disk : ℕ) (disk-below : disk < layout .disks) where
-  -- A symbol is lost if it lies in the disk's stretch
-  pub in-lostStrip : (t : ℕ) → lost layout disk t ≡ true → List·Memᴰ t (lostStrip layout disk)
-  in-lostStrip t is-lost =
-      let strip = lost-in-strip layout disk disk-below t is-lost in
-      in-symbolsFrom (firstSymbol layout disk) (heightOf layout disk) t (strip .0) (strip .1)
-
-  -- Each symbol of the strip is lost
-  pub lostStrip-lost : (t : ℕ) → List·Memᴰ t (lostStrip layout disk) → lost layout disk t ≡ true
-  lostStrip-lost t m =
-      let strip = symbolsFrom-between (firstSymbol layout disk) (heightOf layout disk) t m in
-      let row = t - firstSymbol layout disk in
-      let place : firstSymbol layout disk + row ≡ t = omega arith in
-      ap (lost layout disk) (sym place) ∙ row-is-lost layout disk disk-below row (omega arith)
-
-  -- On the disk are the symbols of the stretch
-  onDisk-in-stretch : (s : ℕ) → onDisk layout disk s ≡ inStretch (firstSymbol layout disk) (heightOf layout disk) s
-  onDisk-in-stretch s = by-side (decLe (firstSymbol layout disk) s)
-    where
-      by-side : Dec (firstSymbol layout disk ≤ s) → onDisk layout disk s ≡ inStretch (firstSymbol layout disk) (heightOf layout disk) s
-      by-side (yes h) = onDisk-above layout disk s h ∙ sym (rw (le-leb (firstSymbol layout disk) s h))
-      by-side (no h) = onDisk-before layout disk s (omega arith) ∙ sym (rw (lt-leb (firstSymbol layout disk) s (omega arith)))
-
-  -- Rows with those of the strip set to 0 are the survivors' rows
-  pub cleared-are-survivors : (rows cleared : List ℕ) → symbolsOf layout ≤ length rows → symbolsOf layout ≤ length cleared
-      → ((s : ℕ) → getD cleared s 0 ≡ cond (inStretch (firstSymbol layout disk) (heightOf layout disk) s) 0 (getD rows s 0))
+  -- Rows with those of the survivors alone are the survivors' rows
+  pub filled-are-survivors : (rows cleared : List ℕ) → symbolsOf layout ≤ length rows → symbolsOf layout ≤ length cleared
+      → FilledTo (symbolsOf layout) (λ s. cond (survives layout disk s) (getD rows s 0) 0) cleared
       → take (symbolsOf layout) cleared ≡ survivors (survives layout disk) (take (symbolsOf layout) rows)
-  cleared-are-survivors rows cleared rows-held cleared-held entries =
+  filled-are-survivors rows cleared rows-held cleared-held entries =
       let n = symbolsOf layout in
       let taken = length-take-le n cleared cleared-held in
       ext-getD 0 (take n cleared) (survivors (survives layout disk) (take n rows))
       (taken ∙ sym (length-survivors (survives layout disk) (take n rows) ∙ length-take-le n rows rows-held))
       (λ s b. by-symbol s (omega (arith, taken)))
     where
-      by-disk : (s : ℕ) (on : Bool) (row : ℕ) → cond on 0 row ≡ cond (not on) row 0
-      by-disk s true row = refl
-      by-disk s false row = refl
-
       by-symbol : (s : ℕ) → s < symbolsOf layout
           → getD (take (symbolsOf layout) cleared) s 0 ≡ getD (survivors (survives layout disk) (take (symbolsOf layout) rows)) s 0
       by-symbol s h =
           let n = symbolsOf layout in
           getD-take n cleared s 0 h
           ∙ entries s
-          ∙ ap (λ (on : Bool). cond on 0 (getD rows s 0)) (sym (onDisk-in-stretch s))
-          ∙ by-disk s (onDisk layout disk s) (getD rows s 0)
-          ∙ ap₂ (λ (in-array : Bool) (row : ℕ). cond (in-array && not (onDisk layout disk s)) row 0) (sym (lt-ltb s n h)) (sym (getD-take n rows s 0 h))
+          ∙ ap₂ (λ (c : Bool) (row : ℕ). cond c (cond (survives layout disk s) row 0) 0) (lt-ltb s n h) (sym (getD-take n rows s 0 h))
           ∙ sym (getD-survivors (survives layout disk) (take n rows) s)
 
   -- ------------------------------------------------------------------
@@ -137,6 +155,20 @@ module _ (layout : Layout) (disk : ℕ) (disk-below : disk < layout .disks) wher
       ∙ split
       ∙ ap (λ (n : ℕ). countKnown known 0 first + countKnown known n (height + behind)) from-zero
       ∙ omega (arith, before-count, within-count, behind-count, split-again)
+
+  -- and those of the strip are lost
+  pub count-lost : countKnown (lost layout disk) 0 (symbolsOf layout) ≡ heightOf layout disk
+  count-lost =
+      omega (
+        arith,
+        count-survivors,
+        strip-within layout disk disk-below,
+        countKnown-halves (lost layout disk) (survives layout disk) 0 (symbolsOf layout) (λ s h. other-half s (ltb s (symbolsOf layout)) (lt-ltb s (symbolsOf layout) (omega arith))),
+      )
+    where
+      other-half : (s : ℕ) (c : Bool) → c ≡ true → (c && not (onDisk layout disk s)) ≡ not (c && onDisk layout disk s)
+      other-half s true e = refl
+      other-half s false e = absurd (true≢false (sym e))
 
 -- ------------------------------------------------------------------
 -- The step bound

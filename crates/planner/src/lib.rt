@@ -1,25 +1,36 @@
-// A plan for a lost disk, or a pattern that shows that there is none: demand 3.
+// A plan for a lost disk, or for those of its symbols that are wanted, or a pattern that shows that there is none: demand 3.
 ghost use mathlib.Core.Path.{_≡_};
-ghost use Prim.Native.Nat.{_≤_, _<_};
+ghost use mathlib.Core.List.{_++_};
 ghost use lib.ListN.{length};
 ghost use Rattle.codes.specs.Codes.{WithinLimits};
-ghost use Rattle.refusals.specs.Orders.{andThen};
-ghost use Rattle.planner.specs.Planning.{planningFaults, planningVerdict, verdictOf, bytesWritten, replacedFront};
-ghost use Rattle.planner.specs.Demand3.{Demand3, PlansWhereAnyCould};
-ghost use Rattle.planner.specs.Work.{Worked};
+ghost use Rattle.lists.specs.Lists.{listOrder};
+ghost use Rattle.plans.specs.Judgement.{leastWanted};
+ghost use Rattle.refusals.specs.Orders.{andThen, firstOf};
+ghost use Rattle.refusals.specs.declared.Refusal.the-variants.{BadWantedList};
+ghost use Rattle.refusals.specs.declared.Verdict.the-variants.{Fine};
+ghost use Rattle.planner.specs.Planning.{wholeDisk, listedOn, leastBuffer, roomFaults, planningFaults, planningVerdict, verdictOf, bytesWritten, replacedFront};
+ghost use Rattle.planner.specs.Demand3.{Demand3, PlansWhereAnyCould, Promised};
+ghost use Rattle.planner.specs.Work.{Workable, Worked};
+ghost use Rattle.writing.specs.PlanSheets.{EditionFits};
 
-mod lost;
+mod sets;
 
 use codes::Code;
 use elimination::eliminate;
 use elimination::unit_patterns;
 use gf2::BitSet;
 use gf2::equal;
-use lost::lost_subsets;
-use lost::odd_pattern;
-use lost::surviving_rows;
+use lists::first_bad;
+use lists::list_test;
+use plans::loss::least_wanted;
+use plans::loss::loss_of_disk;
+use plans::loss::loss_of_plan;
 use refusals::Refusal;
 use refusals::Verdict;
+use sets::odd_pattern;
+use sets::surviving_rows;
+use sets::wanted_subsets;
+use sheets::Reading;
 use sheets::read_code;
 use writing::write_plan;
 
@@ -30,56 +41,140 @@ pub enum Planned {
     Refused(Refusal),
 }
 
-// 7, 34, behind the verdict on the code sheet.
-fn plan_test(read: Verdict, disks: usize, disk: usize, buffer_length: usize) -> Verdict
-    ensures { λ r. ⌜ r ≡ andThen read (planningFaults disks disk «buffer_length») ⌝ }
+// The least buffer for a sheet of any plan.
+fn least_buffer(edition: usize) -> usize
+    ensures { λ r. ⌜ r ≡ leastBuffer edition ⌝ }
 {
-    read.or_if(disks <= disk, Refusal::NoSuchDisk)
-        .or_if(buffer_length < 3081, Refusal::PlanBufferTooShort)
+    if edition == 2 {
+        return 3114;
+    }
+    3081
 }
 
-// Elimination over the surviving rows. The sheet is written only when every lost row is known to have its subset.
-fn plan_code(code: Code, disk: usize, buffer: &mut [u8]) -> Planned
-    requires { ⌜ WithinLimits code × (disk < code .layout .disks) × (3081 ≤ length (now buffer)) ⌝ }
-    ensures { λ r. ⌜ Worked code disk (now (buffer .entry)) (now (buffer .exit)) r ⌝ }
+// 23, 34: so many symbols are listed, for a disk of so many rows, and the first bad one is at `bad`.
+fn list_and_room_test(
+    edition: usize,
+    height: usize,
+    listed: usize,
+    bad: usize,
+    buffer_length: usize,
+) -> Verdict
+    ensures { λ r. ⌜ r ≡ firstOf (listOrder listed (leastWanted edition) height bad (BadWantedList 0) (BadWantedList bad) ++ roomFaults edition «buffer_length») ⌝ }
+{
+    let by_count = Refusal::BadWantedList { position: 0 };
+    let by_entry = Refusal::BadWantedList { position: bad };
+    let least = least_wanted(edition);
+    let room = least_buffer(edition);
+    list_test(
+        Verdict::Fine,
+        listed,
+        least,
+        height,
+        bad,
+        by_count,
+        by_entry,
+    ).or_if(buffer_length < room, Refusal::PlanBufferTooShort)
+}
+
+// 7, 23, 34, behind the verdict on the code sheet.
+fn plan_test(
+    reading: Reading,
+    edition: usize,
+    disk: usize,
+    wanted: &[u8],
+    buffer_length: usize,
+) -> Verdict
+    requires { ⌜ (reading .verdict ≡ Fine → WithinLimits (reading .code)) ⌝ }
+    ensures { λ r. ⌜ r ≡ andThen (reading .verdict) (planningFaults (reading .code .layout) (record { edition = edition; disk = disk; wanted = now (wanted .entry) }) «buffer_length») ⌝ }
+{
+    let read = reading.verdict;
+    let code = reading.code;
+    let layout = code.layout;
+    let disks = layout.disks;
+    let opened = read.or_if(disks <= disk, Refusal::NoSuchDisk);
+    let Verdict::Fine = opened else {
+        return opened;
+    };
+    let lost = loss_of_disk(layout, disk);
+    let bad = first_bad(wanted, lost.wanted);
+    let height = layout.height_of(disk);
+    list_and_room_test(edition, height, wanted.len(), bad, buffer_length)
+}
+
+// Elimination over the surviving rows. The sheet is written only when every wanted row is known to have its subset.
+fn plan_code(code: Code, edition: usize, disk: usize, list: &[u8], buffer: &mut [u8]) -> Planned
+    requires { ⌜ Workable code (record { edition = edition; disk = disk; wanted = now list }) (length (now buffer)) ⌝ }
+    ensures { λ r. ⌜ Worked code (record { edition = edition; disk = disk; wanted = now (list .entry) }) (now (buffer .entry)) (now (buffer .exit)) r ⌝ }
 {
     let layout = code.layout;
     let rows = code.rows;
     let data_symbols = code.data_symbols;
-    let symbols = layout.symbols();
-    let first = layout.first_symbol(disk);
-    let height = layout.height_of(disk);
-    let surviving = surviving_rows(rows, first, height);
+    let loss = loss_of_plan(layout, disk, edition, list);
+    let symbols = loss.symbols;
+    let survivors = loss.survivors;
+    let wanted = loss.wanted;
+    let surviving = surviving_rows(rows, symbols, survivors);
     let units = unit_patterns(data_symbols);
     let eliminated = eliminate(units, data_symbols, surviving, symbols);
     let remaining = eliminated.remaining;
-    let pattern = odd_pattern(remaining, data_symbols, rows, first, height);
+    let pattern = odd_pattern(remaining, data_symbols, rows, symbols, wanted);
     if !equal(pattern, 0) {
         return Planned::Pattern { pattern };
     }
     let pivots = eliminated.pivots;
-    let subsets = lost_subsets(pivots, surviving, symbols, rows, first, height);
-    let written = write_plan(layout, data_symbols, disk, subsets, buffer);
+    let subsets = wanted_subsets(pivots, surviving, symbols, rows, wanted);
+    let written = write_plan(
+        edition,
+        layout,
+        data_symbols,
+        disk,
+        list,
+        wanted,
+        subsets,
+        buffer,
+    );
     Planned::Plan {
         length: written.length,
         reads: written.reads,
     }
 }
 
-// Plans the rebuild of a disk: a plan sheet at the front of the buffer, or a pattern and nothing written. A refusal changes no byte.
-pub fn plan(sheet: &[u8], disk: usize, buffer: &mut [u8]) -> Planned
-    ensures refusal { λ r. ⌜ verdictOf r ≡ planningVerdict (now (sheet .entry)) disk (length (now (buffer .entry))) ⌝ }
-    ensures buffer { λ r. ⌜ now (buffer .exit) ≡ replacedFront (bytesWritten r) (now (buffer .exit)) (now (buffer .entry)) ⌝ }
-    ensures demand3 { λ r. ⌜ Demand3 (now (sheet .entry)) disk (now (buffer .exit)) r ⌝ }
-    ensures exactly { λ r. ⌜ PlansWhereAnyCould (now (sheet .entry)) disk (length (now (buffer .entry))) r ⌝ }
+// Plans for a failed disk and a list of wanted symbols; edition 1 has none, and wants the whole disk.
+fn plan_asked(
+    sheet: &[u8],
+    edition: usize,
+    disk: usize,
+    wanted: &[u8],
+    buffer: &mut [u8],
+) -> Planned
+    requires { ⌜ EditionFits edition (now wanted) ⌝ }
+    ensures { λ r. ⌜ Promised (now (sheet .entry)) (record { edition = edition; disk = disk; wanted = now (wanted .entry) }) (now (buffer .entry)) (now (buffer .exit)) r ⌝ }
 {
     let reading = read_code(sheet);
-    let read = reading.verdict;
     let code = reading.code;
-    let layout = code.layout;
-    let verdict = plan_test(read, layout.disks, disk, buffer.len());
+    let verdict = plan_test(reading, edition, disk, wanted, buffer.len());
     let Verdict::Refused(refusal) = verdict else {
-        return plan_code(code, disk, buffer);
+        return plan_code(code, edition, disk, wanted, buffer);
     };
     Planned::Refused(refusal)
+}
+
+// Plans the rebuild of a disk: an edition 1 plan sheet at the front of the buffer, or a pattern and nothing written. A refusal changes no byte.
+pub fn plan(sheet: &[u8], disk: usize, buffer: &mut [u8]) -> Planned
+    ensures refusal { λ r. ⌜ verdictOf r ≡ planningVerdict (now (sheet .entry)) (wholeDisk disk) (length (now (buffer .entry))) ⌝ }
+    ensures buffer { λ r. ⌜ now (buffer .exit) ≡ replacedFront (bytesWritten r) (now (buffer .exit)) (now (buffer .entry)) ⌝ }
+    ensures demand3 { λ r. ⌜ Demand3 (now (sheet .entry)) (wholeDisk disk) (now (buffer .exit)) r ⌝ }
+    ensures exactly { λ r. ⌜ PlansWhereAnyCould (now (sheet .entry)) (wholeDisk disk) (length (now (buffer .entry))) r ⌝ }
+{
+    plan_asked(sheet, 1, disk, &sheet[0..0], buffer)
+}
+
+// Plans the rebuild of the listed symbols of a disk alone: an edition 2 plan sheet that wants exactly these, or a pattern. A refusal changes no byte.
+pub fn plan_wanted(sheet: &[u8], disk: usize, wanted: &[u8], buffer: &mut [u8]) -> Planned
+    ensures refusal { λ r. ⌜ verdictOf r ≡ planningVerdict (now (sheet .entry)) (listedOn disk (now (wanted .entry))) (length (now (buffer .entry))) ⌝ }
+    ensures buffer { λ r. ⌜ now (buffer .exit) ≡ replacedFront (bytesWritten r) (now (buffer .exit)) (now (buffer .entry)) ⌝ }
+    ensures demand3 { λ r. ⌜ Demand3 (now (sheet .entry)) (listedOn disk (now (wanted .entry))) (now (buffer .exit)) r ⌝ }
+    ensures exactly { λ r. ⌜ PlansWhereAnyCould (now (sheet .entry)) (listedOn disk (now (wanted .entry))) (length (now (buffer .entry))) r ⌝ }
+{
+    plan_asked(sheet, 2, disk, wanted, buffer)
 }

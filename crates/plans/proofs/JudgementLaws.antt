@@ -1,8 +1,8 @@
 -- Demand 2 for a plan with any number of steps, in both directions: its verdict is fine exactly where it deserves acceptance. Assumes nothing.
 use mathlib.Core.Path.{_≡_, refl, sym, ap, ap₂, _∙_, subst}
-use mathlib.Core.Bool.{Bool, true, false, not, _&&_, true≢false}
-use mathlib.Core.List.{List, [], _∷_, map, List·Memᴰ, List·Memᴰ·head, List·Memᴰ·tail}
-use mathlib.Core.Logic.{_⊎_, inl, inr}
+use mathlib.Core.Bool.{Bool, true, false, cond, not, _&&_, _||_, true≢false}
+use mathlib.Core.List.{List, [], _∷_, _++_, map, List·Memᴰ, List·Memᴰ·head, List·Memᴰ·tail}
+use mathlib.Core.Logic.{_⊎_, inl, inr, ⊎-elim}
 use Prim.Native.Nat.{ℕ, suc, _+_, _-_, _*_, _^_, _≤_, _<_}
 use native.Mathlib.Omega.{arith}
 use native.Mathlib.Decide.{decLe, decLt}
@@ -10,26 +10,29 @@ use lib.Dec.{eqb, ltb}
 use lib.ListN.{length, getD, take, List·getD-eq-default}
 use lib.Pow.{pow-pos}
 use lib.Seq.{length-take-le, getD-take}
-use borrow.Author.Tests.{lt-ltb, le-ltb, ltb-true, ltb-false, eq-eqb, eqb-true, not-false}
+use borrow.Author.Tests.{lt-ltb, le-ltb, ltb-true, ltb-false, eq-eqb, eqb-true, not-true, not-false}
 use Rattle.codes.specs.Codes.{symbols, matrix, WithinLimits}
 use Rattle.codes.specs.Layouts.{symbolsOf, firstSymbol, heightOf, onDisk}
 use Rattle.codes.specs.declared.Code.{Code}
 use Rattle.codes.specs.declared.Layout.{Layout}
 use Rattle.codes.proofs.LayoutLaws.{strip-within, onDisk-above, onDisk-before}
-use Rattle.gf2.specs.Plans.{run, PlacesBelow, extend, WellFormed, done, next, Accepted}
+use Rattle.gf2.specs.Plans.{run, Within, PlacesBelow, extend, WellFormed, done, next, Accepted}
 use Rattle.gf2.specs.Selection.{Below}
 use Rattle.gf2.specs.Stripes.{Valid, runOnStripe, SameSymbols}
-use Rattle.gf2.specs.declared.Step.{Step}
 use Rattle.gf2.proofs.Booleans.{and-left, and-right, and-true-if-both}
+use Rattle.gf2.proofs.Columns.{length-runOnStripe}
 use Rattle.gf2.proofs.PlanLaws.{run-take}
 use Rattle.gf2.proofs.SearchLaws.{firstFrom-none, none-if-firstFrom-behind}
-use Rattle.gf2.proofs.StripeLaws.{wellFormed-names-below, accepted-restores-stripes, accepted-gives-stripe-back, accepted-if-restores-stripes, restores-means-filled}
+use Rattle.gf2.proofs.StripeLaws.{wellFormed-names-below, accepted-restores-stripes, accepted-gives-stripe-back, accepted-depends-on-known, runOnStripe-keeps-unwritable, accepted-if-restores-stripes, restores-means-filled}
+use Rattle.lists.specs.Lists.{GoodList, listed}
+use Rattle.lists.proofs.ListLaws.{good-if-no-fault, no-fault-if-good, listed-passes}
 use Rattle.refusals.specs.Orders.{firstOf, ifFine}
+use Rattle.refusals.specs.declared.Refusal.the-variants.{BadWantedList}
 use Rattle.refusals.specs.declared.Verdict.{Verdict}
 use Rattle.refusals.specs.declared.Verdict.the-variants.{Fine, Refused}
-use Rattle.refusals.proofs.OrderLaws.{fine-means-none-holds, none-holds-means-fine, refused-is-not-fine}
+use Rattle.refusals.proofs.OrderLaws.{fine-means-none-holds, none-holds-means-fine, none-holds-join, none-holds-first, none-holds-second, refused-is-not-fine}
 use Rattle.plans.specs.Plans.{SheetStep, PlanHead, Plan, stepOf, stepsOf}
-use Rattle.plans.specs.Judgement.{lost, survives, headFaults, malformed, stepFaults, stepsVerdict, trueReadCount, neverFilled, endsWrong, lowestWanted, endFaults, SetsWithin, judgement, bodyVerdict, planVerdict}
+use Rattle.plans.specs.Judgement.{lost, survives, headFaults, wantedOf, keptOf, leastWanted, wantedFaults, malformed, stepFaults, stepsVerdict, trueReadCount, neverFilled, endsWrong, lowestWanted, endFaults, SetsWithin, judgement, bodyVerdict, planVerdict}
 use Rattle.plans.specs.Demand2.{HeadFits, Deserves}
 use Rattle.plans.proofs.StepLaws.{target-stepOf}
 
@@ -52,13 +55,26 @@ same-passes {a} {b} same = ap not (eq-eqb a b same)
 -- ------------------------------------------------------------------
 -- The head
 
+-- An edition that is tested for is 1 or 2
+edition-known : (edition : ℕ) → (eqb edition 1 || eqb edition 2) ≡ true → (edition ≡ 1) ⊎ (edition ≡ 2)
+edition-known edition = by-tests (eqb edition 1) (eqb edition 2) refl refl
+  where
+    by-tests : (one two : Bool) → eqb edition 1 ≡ one → eqb edition 2 ≡ two → (one || two) ≡ true → (edition ≡ 1) ⊎ (edition ≡ 2)
+    by-tests true two p q h = inl (eqb-true edition 1 p)
+    by-tests false true p q h = inr (eqb-true edition 2 q)
+    by-tests false false p q h = absurd (true≢false (sym h))
+
+edition-passes : (edition : ℕ) → (edition ≡ 1) ⊎ (edition ≡ 2) → not (eqb edition 1 || eqb edition 2) ≡ false
+edition-passes edition =
+    ⊎-elim (ap (λ (e : ℕ). not (eqb e 1 || eqb e 2))) (ap (λ (e : ℕ). not (eqb e 1 || eqb e 2)))
+
 -- A head without a fault fits the code and the disk asked
 head-fits-if-fine : (code : Code) (disk : ℕ) (head : PlanHead) → firstOf (headFaults (code .layout) (code .data_symbols) disk head) ≡ Fine → HeadFits code disk head
 head-fits-if-fine code disk head e =
     let none = fine-means-none-holds Fine (headFaults (code .layout) (code .data_symbols) disk head) e .1 in
     record {
       first-count = eqb-true _ _ (not-false _ (none .0));
-      edition = eqb-true _ _ (not-false _ (none .1 .0));
+      edition = edition-known _ (not-false _ (none .1 .0));
       disks = eqb-true _ _ (not-false _ (none .1 .1 .0));
       height = eqb-true _ _ (not-false _ (none .1 .1 .1 .0));
       data-symbols = eqb-true _ _ (not-false _ (none .1 .1 .1 .1 .0));
@@ -69,7 +85,7 @@ head-fits-if-fine code disk head e =
 head-fine-if-fits : (code : Code) (disk : ℕ) (head : PlanHead) → HeadFits code disk head → firstOf (headFaults (code .layout) (code .data_symbols) disk head) ≡ Fine
 head-fine-if-fits code disk head fits =
     let count = same-passes (fits .first-count) in
-    let edition = same-passes (fits .edition) in
+    let edition = edition-passes _ (fits .edition) in
     let disks = same-passes (fits .disks) in
     let height = same-passes (fits .height) in
     let data-symbols = same-passes (fits .data-symbols) in
@@ -251,23 +267,40 @@ module _ (layout : Layout) (disk : ℕ) (disk-below : disk < layout .disks) wher
       by-side (yes h) = (h, ltb-true s _ (sym (onDisk-above layout disk s h) ∙ on))
       by-side (no h) = absurd (true≢false (sym on ∙ onDisk-before layout disk s (omega arith)))
 
-  -- The loss of a disk in sets: all lost symbols are wanted, and places are told from the disk's first symbol on
-  pub disk-sets : SetsWithin (symbolsOf layout) (survives layout disk) (lost layout disk) (firstSymbol layout disk)
-  disk-sets =
-      record {
-        survives-below = survives-below layout disk;
-        wanted-below = lost-below layout disk;
-        wanted-lost = λ s is-lost. lost-means-not-surviving layout disk s is-lost;
-        wanted-from = λ s is-lost. lost-in-strip s is-lost .0;
-        origin-to = omega (arith, strip-within layout disk disk-below);
-      }
+  module _ (edition : ℕ) (list : List ℕ) (good : GoodList (leastWanted edition) (heightOf layout disk) (lost layout disk) list) where
+    -- Wanted symbols are lost
+    pub wanted-is-lost : (s : ℕ) → wantedOf layout disk edition list s ≡ true → lost layout disk s ≡ true
+    wanted-is-lost s = by-edition (eqb edition 2)
+      where
+        by-edition : (two : Bool) → cond two (listed list s) (lost layout disk s) ≡ true → lost layout disk s ≡ true
+        by-edition true h = listed-passes list (lost layout disk) (good .each-allowed) s h
+        by-edition false h = h
+
+    -- The sets that the plan is judged by
+    pub plan-sets : SetsWithin (symbolsOf layout) (survives layout disk) (wantedOf layout disk edition list) (firstSymbol layout disk)
+    plan-sets =
+        record {
+          survives-below = survives-below layout disk;
+          wanted-below = λ s is-wanted. lost-below layout disk s (wanted-is-lost s is-wanted);
+          wanted-lost = λ s is-wanted. lost-means-not-surviving layout disk s (wanted-is-lost s is-wanted);
+          wanted-from = λ s is-wanted. lost-in-strip s (wanted-is-lost s is-wanted) .0;
+          origin-to = omega (arith, strip-within layout disk disk-below);
+        }
 
 -- ------------------------------------------------------------------
 -- The judgement
 
--- gf2's acceptance of steps, for the matrix of a code and the loss of a disk
-abbrev pub AcceptedFor : Code → ℕ → List Step → Type 0
-AcceptedFor code disk steps = Accepted (matrix code) (lost (code .layout) disk) (survives (code .layout) disk) (lost (code .layout) disk) steps
+-- What a plan wants, for a code and the loss of a disk
+abbrev pub wantedBy : Code → ℕ → Plan → ℕ → Bool
+wantedBy code disk plan = wantedOf (code .layout) disk (plan .head .edition) (plan .wanted)
+
+-- gf2's acceptance of a plan's steps, for the matrix of a code and the loss of a disk
+abbrev pub AcceptedFor : Code → ℕ → Plan → Type 0
+AcceptedFor code disk plan = Accepted (matrix code) (wantedBy code disk plan) (survives (code .layout) disk) (wantedBy code disk plan) (stepsOf plan)
+
+-- The rule for a plan's wanted symbols
+abbrev pub WantedGood : Code → ℕ → Plan → Type 0
+WantedGood code disk plan = GoodList (leastWanted (plan .head .edition)) (heightOf (code .layout) disk) (lost (code .layout) disk) (plan .wanted)
 
 module _ (code : Code) (within : WithinLimits code) (disk : ℕ) (disk-below : disk < code .layout .disks) where
   -- The matrix has a row for each symbol
@@ -295,68 +328,157 @@ module _ (code : Code) (within : WithinLimits code) (disk : ℕ) (disk-below : d
   -- From the verdict to demand 2
 
   module _ (plan : Plan) where
-    -- A fine verdict behind the head means that every rule is kept
-    body-fine : bodyVerdict code disk (plan .steps) (plan .head .reads) ≡ Fine
-        → RulesKept (code .rows) (symbols code) (survives (code .layout) disk) (lost (code .layout) disk) (plan .steps) (plan .head .reads)
-    unfolding bodyVerdict
-    body-fine e = rules-kept-if-fine (code .rows) (symbols code) _ _ _ (disk-sets (code .layout) disk disk-below) (plan .steps) (plan .head .reads) e
+    -- A fine verdict on the head says that it fits, and that the wanted list is good
+    head-fine : firstOf (headFaults (code .layout) (code .data_symbols) disk (plan .head) ++ wantedFaults (code .layout) disk (plan .head .edition) (plan .wanted)) ≡ Fine
+        → HeadFits code disk (plan .head) × WantedGood code disk plan
+    head-fine e =
+        let heads = headFaults (code .layout) (code .data_symbols) disk (plan .head) in
+        let lists = wantedFaults (code .layout) disk (plan .head .edition) (plan .wanted) in
+        let none = fine-means-none-holds Fine (heads ++ lists) e .1 in (
+          head-fits-if-fine code disk (plan .head) (none-holds-means-fine heads (none-holds-first heads lists none)),
+          good-if-no-fault _ _ (lost (code .layout) disk) (plan .wanted) BadWantedList (none-holds-second heads lists none),
+        )
 
-    -- An accepted plan keeps every rule of gf2's acceptance, for the code's matrix
-    pub accepted-if-fine : planVerdict code disk plan ≡ Fine → AcceptedFor code disk (stepsOf plan)
-    unfolding planVerdict
-    accepted-if-fine e = body-fine (both-fine (firstOf (headFaults (code .layout) (code .data_symbols) disk (plan .head))) _ e .1) .accepted
+    -- and the other way round
+    fine-if-head : HeadFits code disk (plan .head) → WantedGood code disk plan
+        → firstOf (headFaults (code .layout) (code .data_symbols) disk (plan .head) ++ wantedFaults (code .layout) disk (plan .head .edition) (plan .wanted)) ≡ Fine
+    fine-if-head fits good =
+        let heads = headFaults (code .layout) (code .data_symbols) disk (plan .head) in
+        let lists = wantedFaults (code .layout) disk (plan .head .edition) (plan .wanted) in
+        none-holds-means-fine (heads ++ lists)
+        (none-holds-join heads lists (fine-means-none-holds Fine heads (head-fine-if-fits code disk (plan .head) fits) .1)
+        (no-fault-if-good _ _ (lost (code .layout) disk) (plan .wanted) BadWantedList good))
 
-    -- A plan whose head fits, whose steps are formed, which gf2 accepts and whose stated count is true deserves acceptance
-    pub deserves-if-rules-kept : HeadFits code disk (plan .head) → EachFormed (symbols code) (plan .steps) → AcceptedFor code disk (stepsOf plan)
+    -- A plan whose head fits, whose wanted list is good, whose steps are formed, which gf2 accepts and whose stated count is true deserves acceptance
+    pub deserves-if-rules-kept : HeadFits code disk (plan .head) → WantedGood code disk plan → EachFormed (symbols code) (plan .steps) → AcceptedFor code disk plan
         → plan .head .reads ≡ trueReadCount (symbols code) (survives (code .layout) disk) (stepsOf plan) → Deserves code disk plan (plan .head .reads)
-    deserves-if-rules-kept head-fits each-formed accepted true-count =
+    deserves-if-rules-kept head-fits good each-formed accepted true-count =
         record {
           head-fits = head-fits;
+          wanted-good = good;
           each-formed = each-formed;
           uses-known = accepted .well-formed;
           restores =
               λ L L-positive.
-              accepted-restores-stripes (matrix code) (lost (code .layout) disk) (survives (code .layout) disk) (lost (code .layout) disk) (stepsOf plan)
-              matrix-lost-below matrix-survives-below accepted L (code .data_symbols);
+              accepted-restores-stripes (matrix code) (wantedBy code disk plan) (survives (code .layout) disk) (wantedBy code disk plan) (stepsOf plan)
+              (matrix-wanted-below good) matrix-survives-below accepted L (code .data_symbols);
           stated-count = refl;
           true-count = sym true-count;
         }
+      where
+        matrix-wanted-below : WantedGood code disk plan → PlacesBelow (length (matrix code)) (wantedBy code disk plan)
+        matrix-wanted-below list-good s is-wanted =
+            matrix-lost-below s (wanted-is-lost (code .layout) disk disk-below (plan .head .edition) (plan .wanted) list-good s is-wanted)
+
+    -- A fine verdict means that every rule is kept
+    plan-fine : planVerdict code disk plan ≡ Fine
+        → HeadFits code disk (plan .head)
+        × WantedGood code disk plan
+        × RulesKept (code .rows) (symbols code) (survives (code .layout) disk) (wantedBy code disk plan) (plan .steps) (plan .head .reads)
+    unfolding planVerdict bodyVerdict
+    plan-fine e =
+        let both = both-fine (firstOf (headFaults (code .layout) (code .data_symbols) disk (plan .head) ++ wantedFaults (code .layout) disk (plan .head .edition) (plan .wanted))) _ e in
+        let head = head-fine (both .0) in (
+          head .0,
+          head .1,
+          rules-kept-if-fine (code .rows) (symbols code) _ _ _ (plan-sets (code .layout) disk disk-below (plan .head .edition) (plan .wanted) (head .1)) (plan .steps) (plan .head .reads) (both .1),
+        )
+
+    -- An accepted plan keeps every rule of gf2's acceptance, for the code's matrix
+    pub accepted-if-fine : planVerdict code disk plan ≡ Fine → AcceptedFor code disk plan
+    accepted-if-fine e = plan-fine e .2 .accepted
 
     -- A plan whose verdict is fine deserves acceptance
     pub deserves-if-fine : planVerdict code disk plan ≡ Fine → Deserves code disk plan (plan .head .reads)
-    unfolding planVerdict
     deserves-if-fine e =
-        let both = both-fine (firstOf (headFaults (code .layout) (code .data_symbols) disk (plan .head))) _ e in
-        let body = body-fine (both .1) in
-        deserves-if-rules-kept (head-fits-if-fine code disk (plan .head) (both .0)) (body .each-formed) (body .accepted) (body .true-count)
+        let kept = plan-fine e in
+        deserves-if-rules-kept (kept .0) (kept .1) (kept .2 .each-formed) (kept .2 .accepted) (kept .2 .true-count)
 
-    -- A plan whose verdict is fine, run on a valid stripe with the disk's strip ruined, gives that stripe back
-    pub gives-stripe-back-if-fine : planVerdict code disk plan ≡ Fine → (L : ℕ) (stripe x : List ℕ) → Valid L (code .data_symbols) (matrix code) stripe
-        → length x ≡ symbols code * L → SameSymbols L (survives (code .layout) disk) x stripe → runOnStripe L (stepsOf plan) x ≡ stripe
-    gives-stripe-back-if-fine e L stripe x valid x-length same =
-        accepted-gives-stripe-back (matrix code) (lost (code .layout) disk) (survives (code .layout) disk) (lost (code .layout) disk) (stepsOf plan)
-        matrix-lost-below matrix-survives-below (accepted-if-fine e) (λ s h. lost-or-survives (code .layout) disk s (omega (arith, length-matrix))) L (code .data_symbols) stripe x valid
-        (x-length ∙ ap (λ (n : ℕ). n * L) (sym length-matrix)) same
+    -- ------------------------------------------------------------------
+    -- What a plan whose verdict is fine leaves
+
+    -- All symbols that are not wanted are kept
+    abbrev pub keptBy : ℕ → Bool
+    keptBy = keptOf (code .layout) disk (plan .head .edition) (plan .wanted)
+
+    module _ (fine : planVerdict code disk plan ≡ Fine) where
+      -- Survivors are kept
+      survivors-kept : Within (survives (code .layout) disk) keptBy
+      survivors-kept s alive = and-true-if-both (ltb s (symbols code)) _ (lt-ltb s (symbols code) (survives-below (code .layout) disk s alive)) (by-want (wantedBy code disk plan s) refl)
+        where
+          by-want : (asked : Bool) → wantedBy code disk plan s ≡ asked → not asked ≡ true
+          by-want true e =
+              absurd
+              (true≢false
+              (sym alive
+              ∙ lost-means-not-surviving (code .layout) disk s
+              (wanted-is-lost (code .layout) disk disk-below (plan .head .edition) (plan .wanted) (plan-fine fine .1) s e)))
+          by-want false e = refl
+
+      -- Each symbol is wanted, or kept and never written
+      wanted-or-kept : (s : ℕ) → s < length (matrix code) → (wantedBy code disk plan s ≡ true) ⊎ ((keptBy s ≡ true) × (wantedBy code disk plan s ≡ false))
+      wanted-or-kept s h = by-want (wantedBy code disk plan s) refl
+        where
+          by-want : (asked : Bool) → wantedBy code disk plan s ≡ asked → (wantedBy code disk plan s ≡ true) ⊎ ((keptBy s ≡ true) × (wantedBy code disk plan s ≡ false))
+          by-want true e = inl e
+          by-want false e = inr (and-true-if-both (ltb s (symbols code)) _ (lt-ltb s (symbols code) (omega (arith, length-matrix))) (ap not e), e)
+
+      -- Wanted symbols are rows of the matrix
+      wanted-rows : PlacesBelow (length (matrix code)) (wantedBy code disk plan)
+      wanted-rows s is-wanted =
+          matrix-lost-below s (wanted-is-lost (code .layout) disk disk-below (plan .head .edition) (plan .wanted) (plan-fine fine .1) s is-wanted)
+
+      -- Run on a valid stripe with the wanted symbols ruined, it gives that stripe back
+      pub gives-stripe-back-if-fine : (L : ℕ) (stripe x : List ℕ) → Valid L (code .data_symbols) (matrix code) stripe → length x ≡ length (matrix code) * L
+          → SameSymbols L keptBy x stripe → runOnStripe L (stepsOf plan) x ≡ stripe
+      gives-stripe-back-if-fine L stripe x valid x-length same =
+          accepted-gives-stripe-back (matrix code) (wantedBy code disk plan) (survives (code .layout) disk) (wantedBy code disk plan) (stepsOf plan)
+          wanted-rows matrix-survives-below (accepted-if-fine fine) keptBy survivors-kept wanted-or-kept L (code .data_symbols) stripe x valid x-length same
+
+      -- It keeps all other symbols
+      pub keeps-kept-if-fine : (L : ℕ) (x : List ℕ) → length x ≡ length (matrix code) * L → SameSymbols L keptBy (runOnStripe L (stepsOf plan) x) x
+      keeps-kept-if-fine L x x-length s is-kept =
+          runOnStripe-keeps-unwritable (length (matrix code)) (accepted-if-fine fine .well-formed) wanted-rows matrix-survives-below L x x-length s
+          (omega (arith, length-matrix, ltb-true s (symbols code) (and-left (ltb s (symbols code)) _ is-kept))) (not-true _ (and-right (ltb s (symbols code)) _ is-kept))
+
+      -- and the stripe's length
+      pub keeps-length-if-fine : (L : ℕ) (x : List ℕ) → length x ≡ length (matrix code) * L → length (runOnStripe L (stepsOf plan) x) ≡ length (matrix code) * L
+      keeps-length-if-fine L x x-length =
+          length-runOnStripe L (length (matrix code)) (stepsOf plan) x x-length
+          (wellFormed-names-below (length (matrix code)) wanted-rows (accepted-if-fine fine .well-formed) matrix-survives-below)
+
+      -- What it leaves at surviving and wanted symbols depends on the survivors alone
+      pub depends-on-survivors-if-fine : (L : ℕ) (x y : List ℕ) → length x ≡ length (matrix code) * L → length y ≡ length (matrix code) * L
+          → SameSymbols L (survives (code .layout) disk) x y
+          → SameSymbols L (λ s. survives (code .layout) disk s || wantedBy code disk plan s) (runOnStripe L (stepsOf plan) x) (runOnStripe L (stepsOf plan) y)
+      depends-on-survivors-if-fine L x y x-length y-length same =
+          accepted-depends-on-known (matrix code) (wantedBy code disk plan) (survives (code .layout) disk) (wantedBy code disk plan) (stepsOf plan)
+          wanted-rows matrix-survives-below (accepted-if-fine fine) L x y x-length y-length same
 
     -- ------------------------------------------------------------------
     -- From demand 2 to the verdict
 
     module _ (count : ℕ) (deserves : Deserves code disk plan count) where
-      -- A plan that deserves acceptance is accepted by gf2's rules: it fills every lost place, since one that is never filled can't come out right
-      pub accepted-if-deserves : AcceptedFor code disk (stepsOf plan)
+      -- Wanted symbols are rows of the matrix
+      wanted-in-matrix : PlacesBelow (length (matrix code)) (wantedBy code disk plan)
+      wanted-in-matrix s is-wanted =
+          matrix-lost-below s (wanted-is-lost (code .layout) disk disk-below (plan .head .edition) (plan .wanted) (deserves .wanted-good) s is-wanted)
+
+      -- A plan that deserves acceptance is accepted by gf2's rules: it fills every wanted place, since one that is never filled can't come out right
+      pub accepted-if-deserves : AcceptedFor code disk plan
       accepted-if-deserves =
-          accepted-if-restores-stripes (matrix code) (lost (code .layout) disk) (survives (code .layout) disk) (lost (code .layout) disk) (stepsOf plan)
-          matrix-lost-below matrix-survives-below 1 (code .data_symbols) (omega arith) matrix-below (deserves .uses-known)
-          (restores-means-filled (matrix code) (lost (code .layout) disk) (survives (code .layout) disk) (lost (code .layout) disk) (stepsOf plan)
-          matrix-lost-below matrix-survives-below 1 (code .data_symbols) (omega arith) (deserves .uses-known) matrix-lost-below (deserves .restores 1 (omega arith)))
+          accepted-if-restores-stripes (matrix code) (wantedBy code disk plan) (survives (code .layout) disk) (wantedBy code disk plan) (stepsOf plan)
+          wanted-in-matrix matrix-survives-below 1 (code .data_symbols) (omega arith) matrix-below (deserves .uses-known)
+          (restores-means-filled (matrix code) (wantedBy code disk plan) (survives (code .layout) disk) (wantedBy code disk plan) (stepsOf plan)
+          wanted-in-matrix matrix-survives-below 1 (code .data_symbols) (omega arith) (deserves .uses-known) wanted-in-matrix (deserves .restores 1 (omega arith)))
           (deserves .restores 1 (omega arith))
 
       -- A plan that deserves acceptance has a fine verdict
       pub fine-if-deserves : planVerdict code disk plan ≡ Fine
       unfolding planVerdict bodyVerdict
       fine-if-deserves =
-          fine-if-both (head-fine-if-fits code disk (plan .head) (deserves .head-fits))
-          (fine-if-rules-kept (code .rows) (symbols code) _ _ _ (disk-sets (code .layout) disk disk-below) (plan .steps) (plan .head .reads)
+          fine-if-both (fine-if-head (deserves .head-fits) (deserves .wanted-good))
+          (fine-if-rules-kept (code .rows) (symbols code) _ _ _ (plan-sets (code .layout) disk disk-below (plan .head .edition) (plan .wanted) (deserves .wanted-good)) (plan .steps) (plan .head .reads)
           (record {
             each-formed = deserves .each-formed;
             accepted = accepted-if-deserves;

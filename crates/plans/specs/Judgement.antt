@@ -1,21 +1,22 @@
--- The judgement of a plan with any number of steps (document 01, "When the desk says no" and "How tight the answers are"):
--- 13 for the first count, 14, 15, 16; then steps in order, in each 17, 18, 19; then 20 over all rows, 21 over all rows, 22.
+-- The judgement of a plan with any number of steps (document 01, "When the desk says no" and "How tight the answers are"; document 02, §3):
+-- 13 for the first count, 14, 15, 16, 23; then steps in order, in each 17, 18, 19; then 20 over all wanted symbols, 21 over all of them, 22.
 use mathlib.Core.Path.{_≡_}
 use mathlib.Core.Bool.{Bool, true, false, cond, not, _&&_, _||_}
-use mathlib.Core.List.{List, [], _∷_, map}
+use mathlib.Core.List.{List, [], _∷_, _++_, map}
 use Prim.Native.Nat.{ℕ, zero, suc, _+_, _-_, _≤_, _<_}
 use lib.Dec.{eqb, leb, ltb}
 use lib.ListN.{getD}
 use Rattle.plans.specs.Plans.{SheetStep, PlanHead, Plan, stepOf}
-use Rattle.codes.specs.Layouts.{symbolsOf, firstSymbol, onDisk}
+use Rattle.codes.specs.Layouts.{symbolsOf, firstSymbol, heightOf, onDisk}
 use Rattle.codes.specs.declared.Layout.{Layout}
 use Rattle.codes.specs.declared.Code.{Code}
 use Rattle.gf2.specs.Lists.{firstFrom}
 use Rattle.gf2.specs.Plans.{run, PlacesBelow, extend, ready, filledAfter}
 use Rattle.gf2.specs.declared.Step.{Step}
 use Rattle.gf2.specs.declared.Step.the-variants.{Clear, Copy, Add}
+use Rattle.lists.specs.Lists.{listFaults, listed}
 use Rattle.refusals.specs.Orders.{Fault, _gets_, firstOf, ifFine}
-use Rattle.refusals.specs.declared.Refusal.the-variants.{PlanSheetCount, PlanSheetEdition, PlanOfAnotherCode, PlanOfAnotherDisk, MalformedStep, TargetNotLost, UnfilledPlaceUsed, NeverFilled, EndsWrong, WrongReadCount}
+use Rattle.refusals.specs.declared.Refusal.the-variants.{PlanSheetCount, PlanSheetEdition, PlanOfAnotherCode, PlanOfAnotherDisk, MalformedStep, TargetNotWanted, UnfilledPlaceUsed, NeverFilled, EndsWrong, WrongReadCount, BadWantedList}
 use Rattle.refusals.specs.declared.Verdict.{Verdict}
 use Rattle.plans.specs.declared.steps.StepReading.{StepReading}
 use Rattle.plans.specs.declared.steps.StepReading.the-variants as Readings
@@ -42,16 +43,32 @@ pub record DiskWithin (layout : Layout) (disk : ℕ) : Type 0 where
 -- ------------------------------------------------------------------
 -- The head
 
--- First count (13), 14, 15, 16
+-- First count (13), 14 (editions 1 and 2 are allowed), 15, 16
 abbrev pub headFaults : Layout → ℕ → ℕ → PlanHead → List Fault
 headFaults layout dataSymbols disk head =
     (not (eqb (head .count) 6) gets PlanSheetCount)
-    ∷ (not (eqb (head .edition) 1) gets PlanSheetEdition)
+    ∷ (not (eqb (head .edition) 1 || eqb (head .edition) 2) gets PlanSheetEdition)
     ∷ (not (eqb (head .disks) (layout .disks)) gets PlanOfAnotherCode)
     ∷ (not (eqb (head .height) (layout .height)) gets PlanOfAnotherCode)
     ∷ (not (eqb (head .data_symbols) dataSymbols) gets PlanOfAnotherCode)
     ∷ (not (eqb (head .disk) disk) gets PlanOfAnotherDisk)
     ∷ []
+
+-- Wanted are the symbols of edition 2's list; an edition 1 sheet wants its whole disk
+abbrev pub wantedOf : Layout → ℕ → ℕ → List ℕ → ℕ → Bool
+wantedOf layout disk edition list s = cond (eqb edition 2) (listed list s) (lost layout disk s)
+
+-- All other symbols of the array are kept
+abbrev pub keptOf : Layout → ℕ → ℕ → List ℕ → ℕ → Bool
+keptOf layout disk edition list s = ltb s (symbolsOf layout) && not (wantedOf layout disk edition list s)
+
+-- Edition 2 wants at least one symbol
+abbrev pub leastWanted : ℕ → ℕ
+leastWanted edition = cond (eqb edition 2) 1 0
+
+-- 23: a count of 0 or above r, then the first entry that doesn't rise or isn't on the failed disk. Edition 1 has no entries
+abbrev pub wantedFaults : Layout → ℕ → ℕ → List ℕ → List Fault
+wantedFaults layout disk edition list = listFaults (leastWanted edition) (heightOf layout disk) (lost layout disk) list BadWantedList
 
 -- ------------------------------------------------------------------
 -- The steps
@@ -65,7 +82,7 @@ malformed count s =
 abbrev pub stepFaults : ℕ → (ℕ → Bool) → (ℕ → Bool) → ℕ → SheetStep → List Fault
 stepFaults count wanted known number s =
     (malformed count s gets MalformedStep number)
-    ∷ (not (wanted (s .place)) gets TargetNotLost number)
+    ∷ (not (wanted (s .place)) gets TargetNotWanted number)
     ∷ (not (ready (stepOf s) known) gets UnfilledPlaceUsed number)
     ∷ []
 
@@ -149,14 +166,15 @@ judgement rows count survives wanted origin steps stated =
     let ran = stepsVerdict count wanted survives 0 steps in
     ifFine ran (firstOf (endFaults rows count survives wanted origin (map stepOf steps) stated)) ran
 
--- All lost symbols are wanted, and their places are the rows of the disk
-unfoldable pub bodyVerdict : Code → ℕ → List SheetStep → ℕ → Verdict
-bodyVerdict code disk steps stated =
+-- What follows the head of a plan, judged by the sets of its disk and its list; places are rows of the disk
+unfoldable pub bodyVerdict : Code → ℕ → Plan → Verdict
+bodyVerdict code disk plan =
     let layout = code .layout in
-    judgement (code .rows) (symbolsOf layout) (survives layout disk) (lost layout disk) (firstSymbol layout disk) steps stated
+    judgement (code .rows) (symbolsOf layout) (survives layout disk) (wantedOf layout disk (plan .head .edition) (plan .wanted)) (firstSymbol layout disk) (plan .steps) (plan .head .reads)
 
--- Every rule of the check, the sheet's length and the step limit left aside
+-- Every rule of the check, the sheet's length and the step limit left aside: the head, 23, the steps and the end
 unfoldable pub planVerdict : Code → ℕ → Plan → Verdict
 planVerdict code disk plan =
-    let head = firstOf (headFaults (code .layout) (code .data_symbols) disk (plan .head)) in
-    ifFine head (bodyVerdict code disk (plan .steps) (plan .head .reads)) head
+    let layout = code .layout in
+    let head = firstOf (headFaults layout (code .data_symbols) disk (plan .head) ++ wantedFaults layout disk (plan .head .edition) (plan .wanted)) in
+    ifFine head (bodyVerdict code disk plan) head

@@ -1,7 +1,7 @@
 // The head of a plan sheet.
 ghost use mathlib.Core.Path.{_≡_};
-ghost use Prim.Native.Nat.{_<_};
-ghost use Rattle.plans.specs.Plans.{headIn, stepCount};
+ghost use Prim.Native.Nat.{_+_, _<_};
+ghost use Rattle.plans.specs.Plans.{headIn, sectionsIn, stepCountAt, wantedAt};
 use sheets::byte_at;
 
 // What a plan sheet says before its step count; `count` is its first byte.
@@ -30,9 +30,50 @@ pub fn read_head(plan: &[u8]) -> PlanHead
     }
 }
 
-// The step count of a sheet, low byte first.
-pub fn step_count(plan: &[u8]) -> usize
-    ensures { λ r. ⌜ (r ≡ stepCount (now (plan .entry))) × (r < 65536) ⌝ }
+// Where the list of wanted symbols lies in a sheet; the step count stands behind it, then the steps.
+pub struct Sections {
+    pub first: usize,
+    pub count: usize,
+}
+
+// Edition 2 has a list, one byte count and that many symbols; edition 1 has none.
+pub fn read_sections(plan: &[u8]) -> Sections
+    ensures read { λ r. ⌜ r ≡ sectionsIn (now (plan .entry)) ⌝ }
+    ensures small { λ r. ⌜ r .first + r .count < 264 ⌝ }
 {
-    byte_at(plan, 7) + 256 * byte_at(plan, 8)
+    let edition = byte_at(plan, 1);
+    let listed = byte_at(plan, 7);
+    if edition == 2 {
+        return Sections {
+            first: 8,
+            count: listed,
+        };
+    }
+    Sections { first: 7, count: 0 }
+}
+
+// The step count of a sheet, low byte first.
+pub fn step_count(plan: &[u8], sections: Sections) -> usize
+    requires { ⌜ sections .first + sections .count < 264 ⌝ }
+    ensures { λ r. ⌜ (r ≡ stepCountAt sections (now (plan .entry))) × (r < 65536) ⌝ }
+{
+    let at = sections.first + sections.count;
+    byte_at(plan, at) + 256 * byte_at(plan, at + 1)
+}
+
+// The list of wanted symbols, as far as the sheet goes.
+pub fn wanted_part<'a>(plan: &'a [u8], sections: Sections) -> &'a [u8]
+    requires { ⌜ sections .first + sections .count < 264 ⌝ }
+    ensures { λ r. ⌜ now r ≡ wantedAt sections (now (plan .entry)) ⌝ }
+{
+    let size = plan.len();
+    let start = sections.first;
+    let end = start + sections.count;
+    if size <= start {
+        return &plan[0..0];
+    }
+    if size <= end {
+        return &plan[start..size];
+    }
+    &plan[start..end]
 }

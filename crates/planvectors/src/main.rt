@@ -1,12 +1,14 @@
 // The test vectors of planning: reads records from standard input, asks for a plan for each disk that a record names, prints a line for each.
 //
 // A record is two bytes with its length, then one byte that is 1 where a plan's bytes are to be shown, one byte as a seed, two bytes with the
-// buffer's length, one byte with the number of disks that are asked about, 8 bytes with the first of them, and the code sheet. All numbers have
-// their low byte first. The buffer is filled from the seed, and so is the data of the stripe that a plan is tried on.
+// buffer's length, one byte with the number of disks that are asked about, 8 bytes with the first of them, one byte that is 1 where planning is
+// given a list of wanted symbols, two bytes with the list's length (0 without a list), the list, and the code sheet. All numbers have their low
+// byte first. The buffer is filled from the seed, and so is the data of the stripe that a plan is tried on.
 //
 //   refused NUMBER at PLACE same                             the refusal, and whether the buffer is as it was
-//   plan LENGTH READS accepted behind-same restored BYTES    whether the checker accepts the plan with these reads, whether the bytes behind
-//                                                            it are as they were, whether it gives a stripe back; its bytes if asked for
+//   plan LENGTH READS accepted behind-same restored BYTES    whether the checker accepts the plan with these reads, and its sheet wants what
+//                                                            was asked for; whether the bytes behind it are as they were; whether it gives
+//                                                            a stripe its wanted symbols back and keeps all other bytes; its bytes if asked for
 //   pattern PATTERN same good                                whether the buffer is as it was, and the pattern's stripe as it has to be
 //
 // Where one of these is not so, its word begins with "not-".
@@ -16,6 +18,7 @@ use checker::Checked;
 use libc::STDIN_FILENO;
 use planner::Planned;
 use records::byte_at;
+use records::contains;
 use records::end_line;
 use records::fill;
 use records::filled;
@@ -45,6 +48,26 @@ fn room() -> [u8; ROOM]
     [0; ROOM]
 }
 
+fn is_listed(record: &[u8]) -> bool {
+    byte_at(record, 13) == 1
+}
+
+fn list_in(record: &[u8]) -> &[u8] {
+    front_of(rest_at(record, 16), short_number_at(record, 14))
+}
+
+fn sheet_in(record: &[u8]) -> &[u8] {
+    rest_at(rest_at(record, 16), short_number_at(record, 14))
+}
+
+// Whether a symbol of the lost disk is wanted; without a list, each is.
+fn is_wanted(record: &[u8], symbol: usize) -> bool {
+    if is_listed(record) {
+        return contains(list_in(record), symbol);
+    }
+    true
+}
+
 fn is_fine(verdict: Verdict) -> bool {
     match verdict {
         Verdict::Fine => true,
@@ -69,24 +92,53 @@ fn accepts(sheet: &[u8], disk: usize, plan: &[u8], reads: usize) -> bool {
     }
 }
 
-// Ruins the lost strip of a stripe, and says whether a plan makes of it the whole stripe again.
+// Whether a sheet holds the list that planning was given, or none where it was given none.
+fn wants_asked(record: &[u8], plan: &[u8]) -> bool {
+    let edition = byte_at(plan, 1);
+    if is_listed(record) {
+        let wanted = front_of(rest_at(plan, 8), byte_at(plan, 7));
+        return (edition == 2) & same(wanted, list_in(record));
+    }
+    edition == 1
+}
+
+// Ruins a lost symbol of a stripe. One that is not wanted is then as ruined in the whole stripe: a rebuild has to keep its bytes.
+fn ruin_symbol(record: &[u8], symbol: usize, size: usize, stripe: &mut [u8], whole: &mut [u8]) {
+    let start = product(symbol, size);
+    let end = start + product(1, size);
+    fill(stripe, start, end, start);
+    if !is_wanted(record, symbol) {
+        fill(whole, start, end, start);
+    }
+}
+
+// Ruins the lost strip of a stripe.
+fn ruin(record: &[u8], disk: usize, size: usize, stripe: &mut [u8], whole: &mut [u8]) {
+    let height = byte_at(sheet_in(record), 3);
+    let first = product(disk, height);
+    let mut row = 0;
+    while row < height {
+        ruin_symbol(record, first + row, size, stripe, whole);
+        row += 1;
+    }
+}
+
+// Ruins the lost strip of a stripe, and says whether a plan makes of it the whole stripe again, but for symbols that are not wanted.
 fn gives_back(
-    sheet: &[u8],
+    record: &[u8],
     disk: usize,
     plan: &[u8],
     size: usize,
     stripe: &mut [u8],
-    whole: &[u8],
+    whole: &mut [u8],
 ) -> bool {
-    let strip = product(byte_at(sheet, 3), size);
-    let start = product(disk, strip);
-    fill(stripe, start, start + strip, size);
-    rebuilds(sheet, disk, plan, size, stripe) & same(stripe, whole)
+    ruin(record, disk, size, stripe, whole);
+    rebuilds(sheet_in(record), disk, plan, size, stripe) & same(stripe, whole)
 }
 
 // Whether a plan restores the stripe of these data, for which there are two places.
 fn restores_from(
-    sheet: &[u8],
+    record: &[u8],
     disk: usize,
     plan: &[u8],
     size: usize,
@@ -94,20 +146,23 @@ fn restores_from(
     stripe: &mut [u8],
     whole: &mut [u8],
 ) -> bool {
+    let sheet = sheet_in(record);
     encodes(sheet, size, contents, stripe)
         & encodes(sheet, size, contents, whole)
-        & gives_back(sheet, disk, plan, size, stripe, whole)
+        & gives_back(record, disk, plan, size, stripe, whole)
 }
 
 // Whether a plan restores a stripe of symbols of 1 to 7 bytes.
-fn restores(sheet: &[u8], disk: usize, plan: &[u8], seed: usize) -> bool {
+fn restores(record: &[u8], disk: usize, plan: &[u8]) -> bool {
+    let sheet = sheet_in(record);
+    let seed = byte_at(record, 1);
     let size = 1 + seed % 7;
     let length = product(byte_at(sheet, 5), size);
     let contents = filled(seed);
     let mut stripe = room();
     let mut whole = room();
     restores_from(
-        sheet,
+        record,
         disk,
         plan,
         size,
@@ -117,20 +172,38 @@ fn restores(sheet: &[u8], disk: usize, plan: &[u8], seed: usize) -> bool {
     )
 }
 
-// Whether the stripe of these data is zero on every surviving symbol and not on the lost disk.
-fn shows_loss(sheet: &[u8], disk: usize, contents: &[u8], stripe: &mut [u8]) -> bool {
-    let height = byte_at(sheet, 3);
-    encodes(sheet, 1, contents, stripe) & is_zero_beside(stripe, product(disk, height), height)
+// Whether a stripe of one byte a symbol is not zero in some wanted symbol.
+fn loses_wanted(record: &[u8], disk: usize, stripe: &[u8]) -> bool {
+    let height = byte_at(sheet_in(record), 3);
+    let first = product(disk, height);
+    let mut row = 0;
+    while row < height {
+        if byte_at(stripe, first + row) != 0 && is_wanted(record, first + row) {
+            return true;
+        }
+        row += 1;
+    }
+    false
 }
 
-// Whether a pattern has bits below K alone, and a stripe that shows that the disk can't be rebuilt.
-fn is_good(sheet: &[u8], disk: usize, pattern: u64) -> bool {
+// Whether the stripe of these data is zero on every surviving symbol and not in every wanted one.
+fn shows_loss(record: &[u8], disk: usize, contents: &[u8], stripe: &mut [u8]) -> bool {
+    let sheet = sheet_in(record);
+    let height = byte_at(sheet, 3);
+    encodes(sheet, 1, contents, stripe)
+        & is_zero_beside(stripe, product(disk, height), height)
+        & loses_wanted(record, disk, stripe)
+}
+
+// Whether a pattern has bits below K alone, and a stripe that shows that the wanted symbols can't all be rebuilt.
+fn is_good(record: &[u8], disk: usize, pattern: u64) -> bool {
+    let sheet = sheet_in(record);
     let bits = spread(pattern);
     let data_symbols = byte_at(sheet, 4);
     let length = byte_at(sheet, 5);
     let mut stripe = room();
     let contents = front_of(&bits, data_symbols);
-    shows_loss(sheet, disk, contents, &mut stripe[0..length])
+    shows_loss(record, disk, contents, &mut stripe[0..length])
         & is_zero(rest_at(&bits, data_symbols))
 }
 
@@ -144,23 +217,15 @@ fn print_judged(length: usize, reads: usize, accepted: bool, behind_same: bool, 
 }
 
 // Prints what holds of a plan, and its bytes if asked for.
-fn print_plan(
-    sheet: &[u8],
-    disk: usize,
-    seed: usize,
-    shown: usize,
-    plan: &[u8],
-    reads: usize,
-    behind_same: bool,
-) {
+fn print_plan(record: &[u8], disk: usize, plan: &[u8], reads: usize, behind_same: bool) {
     print_judged(
         plan.len(),
         reads,
-        accepts(sheet, disk, plan, reads),
+        accepts(sheet_in(record), disk, plan, reads) & wants_asked(record, plan),
         behind_same,
-        restores(sheet, disk, plan, seed),
+        restores(record, disk, plan),
     );
-    if shown == 1 {
+    if byte_at(record, 0) == 1 {
         print_bytes(plan);
     }
 }
@@ -181,49 +246,47 @@ fn print_refusal(refusal: Refusal, unchanged: bool) {
 }
 
 // Prints what planning answered, and what became of its buffer, which was as the copy is.
-fn print_answer(
-    sheet: &[u8],
-    disk: usize,
-    seed: usize,
-    shown: usize,
-    planned: Planned,
-    buffer: &[u8],
-    copy: &[u8],
-) {
+fn print_answer(record: &[u8], disk: usize, planned: Planned, buffer: &[u8], copy: &[u8]) {
     match planned {
         Planned::Plan { length, reads } => print_plan(
-            sheet,
+            record,
             disk,
-            seed,
-            shown,
             front_of(buffer, length),
             reads,
             same_behind(buffer, copy, length),
         ),
         Planned::Pattern { pattern } => {
-            print_pattern(pattern, same(buffer, copy), is_good(sheet, disk, pattern))
+            print_pattern(pattern, same(buffer, copy), is_good(record, disk, pattern))
         }
         Planned::Refused(refusal) => print_refusal(refusal, same(buffer, copy)),
     }
 }
 
-fn ask(sheet: &[u8], disk: usize, seed: usize, shown: usize, buffer: &mut [u8], copy: &[u8]) {
-    let planned = planner::plan(sheet, disk, buffer);
-    print_answer(sheet, disk, seed, shown, planned, buffer, copy);
+// Asks for a plan, with a list where the record has one.
+fn plan(record: &[u8], disk: usize, buffer: &mut [u8]) -> Planned {
+    let sheet = sheet_in(record);
+    if is_listed(record) {
+        return planner::plan_wanted(sheet, disk, list_in(record), buffer);
+    }
+    planner::plan(sheet, disk, buffer)
 }
 
-// Asks for a plan in a buffer of a length.
-fn ask_with(sheet: &[u8], disk: usize, seed: usize, shown: usize, length: usize) {
+fn ask(record: &[u8], disk: usize, buffer: &mut [u8], copy: &[u8]) {
+    let planned = plan(record, disk, buffer);
+    print_answer(record, disk, planned, buffer, copy);
+}
+
+// Asks about a disk, with a buffer of the record's length.
+fn ask_about(record: &[u8], disk: usize) {
+    let length = short_number_at(record, 2);
     if length > ROOM {
         return;
     }
-    let mut buffer = filled(seed);
-    let copy = filled(seed);
+    let mut buffer = filled(byte_at(record, 1));
+    let copy = filled(byte_at(record, 1));
     ask(
-        sheet,
+        record,
         disk,
-        seed,
-        shown,
         &mut buffer[0..length],
         front_of(&copy, length),
     );
@@ -234,13 +297,7 @@ fn answer(record: &[u8]) {
     let mut left = byte_at(record, 4);
     let mut disk = number_at(record, 5);
     while left > 0 {
-        ask_with(
-            rest_at(record, 13),
-            disk,
-            byte_at(record, 1),
-            byte_at(record, 0),
-            short_number_at(record, 2),
-        );
+        ask_about(record, disk);
         end_line();
         if disk > 64 {
             return;

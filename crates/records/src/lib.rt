@@ -116,13 +116,21 @@ pub fn is_zero(bytes: &[u8]) -> bool {
     same(bytes, front_of(&zeros, bytes.len()))
 }
 
-// Whether bytes are zero before a part and behind it, at most 64 on each side, and the part is not.
+// Whether bytes are zero before a part and behind it, at most 64 on each side.
 pub fn is_zero_beside(bytes: &[u8], start: usize, length: usize) -> bool {
-    let part_on = rest_at(bytes, start);
-    if is_zero(front_of(part_on, length)) {
-        return false;
+    is_zero(front_of(bytes, start)) & is_zero(rest_at(rest_at(bytes, start), length))
+}
+
+// Whether a number is among bytes.
+pub fn contains(bytes: &[u8], number: usize) -> bool {
+    let mut i = 0;
+    while i < bytes.len() {
+        if byte_at(bytes, i) == number {
+            return true;
+        }
+        i += 1;
     }
-    is_zero(front_of(bytes, start)) & is_zero(rest_at(part_on, length))
+    false
 }
 
 // The bits of a pattern, the lowest first, each a byte of 0 or 1.

@@ -66,7 +66,7 @@ fn judge_step(
         return StepReading::Refused(Refusal::MalformedStep { step: number });
     }
     if !has(wanted, sheet_step.place) {
-        return StepReading::Refused(Refusal::TargetNotLost { step: number });
+        return StepReading::Refused(Refusal::TargetNotWanted { step: number });
     }
     let step = decoded(sheet_step);
     if !is_ready(step, known) {

@@ -7,13 +7,14 @@ use native.Mathlib.Nat.{zero-add, add-zero, sub-zero}
 use native.Mathlib.Numerals.{add-one}
 use native.Mathlib.Omega.{arith}
 use lib.Bits.{bitOr}
+use lib.Dec.{eqb}
 use lib.ListN.{length, getD, set, take, drop, length-append, length-drop, take-append-drop}
-use lib.Seq.{sets, sets-eq, take-at, drop-at, drop-append-add, drop-drop, length-take-le}
-use Rattle.plans.specs.Check.{planLength}
-use Rattle.plans.specs.Judgement.{readByAny}
-use Rattle.codes.specs.Layouts.{symbolsOf, firstSymbol, heightOf}
+use lib.Seq.{sets, sets-eq, paste, take-at, drop-at, take-length, drop-length, take-suc-set, drop-set-lt, drop-append-add, drop-drop, length-take-le}
+use borrow.Rule.Slice.PartMut.{putMid, post-is}
+use Rattle.plans.proofs.StepLaws.{part-to-end}
+use Rattle.plans.specs.declared.head.PlanHead.{PlanHead}
+use Rattle.codes.specs.Layouts.{symbolsOf}
 use Rattle.codes.specs.declared.Layout.{Layout}
-use Rattle.codes.proofs.LayoutLaws.{strip-within}
 use Rattle.gf2.specs.BitSets.{has, count}
 use Rattle.gf2.specs.Plans.{NamesBelow}
 use Rattle.gf2.specs.SubsetPlans.{addAll, fillFrom, planOf}
@@ -21,7 +22,7 @@ use Rattle.gf2.specs.declared.Step.{Step}
 use Rattle.gf2.specs.declared.Step.the-variants.{Clear, Copy, Add}
 use Rattle.gf2.proofs.BitSetLaws.{count-le}
 use Rattle.gf2.proofs.Booleans.{bool-cases}
-use Rattle.writing.specs.PlanSheets.{stepBytes, stepsBytes, planHead, planSheet, withSteps, StepsFit, symbolsFrom, planFor, subsetPlan, sourceCount, StripFits, Tells, PlanFits}
+use Rattle.writing.specs.PlanSheets.{stepBytes, stepsBytes, firstSection, listBytes, headBytes, planHead, planSheet, stepsLength, withSteps, StepsFit, symbolsIn, planFor, subsetPlan, sourceCount, StepsWritable, Tells, PlanFits}
 use Rattle.writing.specs.declared.Steps.{Steps}
 use Rattle.writing.proofs.PlanSheetLaws.{length-stepsBytes, stepsBytes-append}
 use Rattle.writing.proofs.SourceLaws.{SourcesRemain, sources-none, sources-next, sources-end, count-is-sourceCount}
@@ -30,53 +31,53 @@ use Rattle.writing.proofs.SourceLaws.{SourcesRemain, sources-none, sour
 -- Steps in a buffer
 
 -- Three stores are the bytes of one step
-pub bytes-stored : (buffer : List ℕ) (number kind target source : ℕ) → planLength (number + 1) ≤ length buffer
-    → set (set (set buffer (planLength number) kind) (planLength number + 1) target) (planLength number + 2) source
-    ≡ take (planLength number) buffer ++ (kind ∷ target ∷ source ∷ []) ++ drop (planLength (number + 1)) buffer
+pub bytes-stored : (buffer : List ℕ) (number kind target source : ℕ) → stepsLength (number + 1) ≤ length buffer
+    → set (set (set buffer (stepsLength number) kind) (stepsLength number + 1) target) (stepsLength number + 2) source
+    ≡ take (stepsLength number) buffer ++ (kind ∷ target ∷ source ∷ []) ++ drop (stepsLength (number + 1)) buffer
 bytes-stored buffer number kind target source room =
-    let at = planLength number in
+    let at = stepsLength number in
     let third : at + 2 ≡ suc (suc at) = omega arith in
-    let next : at + 3 ≡ planLength (number + 1) = omega arith in
+    let next : at + 3 ≡ stepsLength (number + 1) = omega arith in
     ap₂ (λ (m n : ℕ). set (set (set buffer at kind) m target) n source) (add-one at) third
     ∙ sets-eq (kind ∷ target ∷ source ∷ []) buffer at (omega arith)
     ∙ ap (λ (n : ℕ). take at buffer ++ (kind ∷ target ∷ source ∷ []) ++ drop n buffer) next
 
 -- Which is the buffer with that step
 pub step-stored : (buffer : List ℕ) (number : ℕ) (step decoded : Step) → step ≡ decoded
-    → take (planLength number) buffer ++ stepBytes decoded ++ drop (planLength (number + 1)) buffer ≡ withSteps buffer number (step ∷ [])
+    → take (stepsLength number) buffer ++ stepBytes decoded ++ drop (stepsLength (number + 1)) buffer ≡ withSteps buffer number (step ∷ [])
 unfolding withSteps stepsBytes
 step-stored buffer number step decoded e =
-    ap (λ (b : List ℕ). take (planLength number) buffer ++ b ++ drop (planLength (number + 1)) buffer)
+    ap (λ (b : List ℕ). take (stepsLength number) buffer ++ b ++ drop (stepsLength (number + 1)) buffer)
     (sym (append-nil (stepBytes decoded)) ∙ ap (λ (p : Step). stepBytes p ++ []) (sym e))
 
 -- No steps leave the buffer as it is
 pub withSteps-none : (buffer : List ℕ) (number : ℕ) → withSteps buffer number [] ≡ buffer
 unfolding withSteps stepsBytes
 withSteps-none buffer number =
-    ap₂ (λ (front : List ℕ) (n : ℕ). front ++ drop (planLength n) buffer) (append-nil (take (planLength number) buffer)) (add-zero number)
-    ∙ take-append-drop (planLength number) buffer
+    ap₂ (λ (front : List ℕ) (n : ℕ). front ++ drop (stepsLength n) buffer) (append-nil (take (stepsLength number) buffer)) (add-zero number)
+    ∙ take-append-drop (stepsLength number) buffer
 
-module _ (buffer : List ℕ) (number : ℕ) (room : planLength number ≤ length buffer) (xs ys : List Step) where
+module _ (buffer : List ℕ) (number : ℕ) (room : stepsLength number ≤ length buffer) (xs ys : List Step) where
   abbrev front : List ℕ
-  front = take (planLength number) buffer ++ stepsBytes xs
+  front = take (stepsLength number) buffer ++ stepsBytes xs
 
-  length-withSteps-front : length front ≡ planLength (number + length xs)
+  length-withSteps-front : length front ≡ stepsLength (number + length xs)
   length-withSteps-front =
       omega (
         arith,
-        length-append (take (planLength number) buffer) (stepsBytes xs),
-        length-take-le (planLength number) buffer room,
+        length-append (take (stepsLength number) buffer) (stepsBytes xs),
+        length-take-le (stepsLength number) buffer room,
         length-stepsBytes xs,
       )
 
-  drop-behind-steps : drop (planLength (number + length xs + length ys)) (front ++ drop (planLength (number + length xs)) buffer)
-      ≡ drop (planLength (number + length (xs ++ ys))) buffer
+  drop-behind-steps : drop (stepsLength (number + length xs + length ys)) (front ++ drop (stepsLength (number + length xs)) buffer)
+      ≡ drop (stepsLength (number + length (xs ++ ys))) buffer
   drop-behind-steps =
-      let behind : planLength (number + length xs + length ys) ≡ length front + 3 * length ys = omega (arith, length-withSteps-front) in
-      let last : planLength (number + length xs) + 3 * length ys ≡ planLength (number + length (xs ++ ys)) = omega (arith, length-append xs ys) in
-      ap (λ (n : ℕ). drop n (front ++ drop (planLength (number + length xs)) buffer)) behind
-      ∙ drop-append-add front (drop (planLength (number + length xs)) buffer) (3 * length ys)
-      ∙ drop-drop (3 * length ys) (planLength (number + length xs)) buffer
+      let behind : stepsLength (number + length xs + length ys) ≡ length front + 3 * length ys = omega (arith, length-withSteps-front) in
+      let last : stepsLength (number + length xs) + 3 * length ys ≡ stepsLength (number + length (xs ++ ys)) = omega (arith, length-append xs ys) in
+      ap (λ (n : ℕ). drop n (front ++ drop (stepsLength (number + length xs)) buffer)) behind
+      ∙ drop-append-add front (drop (stepsLength (number + length xs)) buffer) (3 * length ys)
+      ∙ drop-drop (3 * length ys) (stepsLength (number + length xs)) buffer
       ∙ ap (λ (n : ℕ). drop n buffer) last
 
   -- Steps and others behind them are written one after the other
@@ -84,22 +85,22 @@ module _ (buffer : List ℕ) (number : ℕ) (room : planLength number ≤ length
   unfolding withSteps
   withSteps-append =
       ap₂ (λ (a b : List ℕ). a ++ stepsBytes ys ++ b)
-      (take-at front (drop (planLength (number + length xs)) buffer) (planLength (number + length xs)) length-withSteps-front) drop-behind-steps
-      ∙ ap (λ (b : List ℕ). b ++ drop (planLength (number + length (xs ++ ys))) buffer)
-      (append-assoc (take (planLength number) buffer) (stepsBytes xs) (stepsBytes ys)
-      ∙ ap (λ (b : List ℕ). take (planLength number) buffer ++ b) (sym (stepsBytes-append xs ys)))
+      (take-at front (drop (stepsLength (number + length xs)) buffer) (stepsLength (number + length xs)) length-withSteps-front) drop-behind-steps
+      ∙ ap (λ (b : List ℕ). b ++ drop (stepsLength (number + length (xs ++ ys))) buffer)
+      (append-assoc (take (stepsLength number) buffer) (stepsBytes xs) (stepsBytes ys)
+      ∙ ap (λ (b : List ℕ). take (stepsLength number) buffer ++ b) (sym (stepsBytes-append xs ys)))
 
 -- The buffer keeps its length
-length-withSteps : (buffer : List ℕ) (number : ℕ) (steps : List Step) → planLength (number + length steps) ≤ length buffer
+length-withSteps : (buffer : List ℕ) (number : ℕ) (steps : List Step) → stepsLength (number + length steps) ≤ length buffer
     → length (withSteps buffer number steps) ≡ length buffer
 unfolding withSteps
 length-withSteps buffer number steps room =
-    let behind = drop (planLength (number + length steps)) buffer in
+    let behind = drop (stepsLength (number + length steps)) buffer in
     omega (
       arith,
-      length-append (take (planLength number) buffer ++ stepsBytes steps) behind,
+      length-append (take (stepsLength number) buffer ++ stepsBytes steps) behind,
       length-withSteps-front buffer number (omega arith) steps [],
-      length-drop (planLength (number + length steps)) buffer,
+      length-drop (stepsLength (number + length steps)) buffer,
     )
 
 -- ------------------------------------------------------------------
@@ -259,156 +260,237 @@ fill-names-below bound first {t} {s} e t-below s-below =
 -- ------------------------------------------------------------------
 -- The steps for all targets
 
--- The plan for the symbols of a strip from a row on
-abbrev pub planFrom : List ℕ → ℕ → ℕ → ℕ → ℕ → List Step
-planFrom subsets symbols first height row = planFor subsets symbols (symbolsFrom (first + row) (height - row))
+-- The plan for the wanted symbols from one on
+abbrev pub planFrom : List ℕ → ℕ → (ℕ → Bool) → ℕ → List Step
+planFrom subsets symbols wanted target = planFor subsets symbols (symbolsIn wanted target (symbols - target))
 
-module _ (subsets : List ℕ) (symbols first height : ℕ) where
-  -- From row 0 on it is the whole plan
-  planFrom-all : planFor subsets symbols (symbolsFrom first height) ≡ planFrom subsets symbols first height 0
-  planFrom-all = rw (add-zero, sub-zero)
+module _ (subsets : List ℕ) (symbols : ℕ) (wanted : ℕ → Bool) where
+  -- From the first symbol on it is the whole plan
+  planFrom-all : subsetPlan symbols wanted subsets ≡ planFrom subsets symbols wanted 0
+  planFrom-all = rw sub-zero
 
-  -- It begins with the steps for the row's symbol
-  planFrom-next : (row : ℕ) → row < height
-      → planFrom subsets symbols first height row
-      ≡ fillFrom (first + row) 0 symbols (getD subsets (first + row) 0) ++ planFrom subsets symbols first height (row + 1)
-  unfolding planOf symbolsFrom
-  planFrom-next row l =
-      let one-left : height - row ≡ suc (height - (row + 1)) = omega arith in
-      let later : suc (first + row) ≡ first + (row + 1) = omega arith in
-      ap (λ (n : ℕ). planFor subsets symbols (symbolsFrom (first + row) n)) one-left
-      ∙ ap (λ (s : ℕ). fillFrom (first + row) 0 symbols (getD subsets (first + row) 0) ++ planFor subsets symbols (symbolsFrom s (height - (row + 1)))) later
+  module _ (target : ℕ) (l : target < symbols) where
+    left-from : symbols - target ≡ suc (symbols - (target + 1))
+    left-from = omega arith
 
-  -- Behind the last row it is empty
-  planFrom-end : (row : ℕ) → height ≤ row → planFrom subsets symbols first height row ≡ []
-  unfolding planOf symbolsFrom
-  planFrom-end row h =
-      let none : height - row ≡ 0 = omega arith in
-      ap (λ (n : ℕ). planFor subsets symbols (symbolsFrom (first + row) n)) none
+    -- It begins with the steps for a symbol that is wanted
+    planFrom-next : wanted target ≡ true
+        → planFrom subsets symbols wanted target ≡ fillFrom target 0 symbols (getD subsets target 0) ++ planFrom subsets symbols wanted (target + 1)
+    unfolding planOf symbolsIn
+    planFrom-next q = rw (left-from, q, add-one)
 
--- The steps for the rows passed are written and their sources gathered, and those for the others remain
-pub record PlanRemaining (subsets : List ℕ) (symbols first height : ℕ) (lent buffer : List ℕ) (sources number row : ℕ) : Type 0 where
-  pub steps-remain : Remaining lent 0 (planFor subsets symbols (symbolsFrom first height)) buffer number (planFrom subsets symbols first height row)
-  pub sources-remain : SourcesRemain symbols (planFor subsets symbols (symbolsFrom first height)) sources (planFrom subsets symbols first height row)
+    -- Any other has none
+    planFrom-skip : wanted target ≡ false → planFrom subsets symbols wanted target ≡ planFrom subsets symbols wanted (target + 1)
+    unfolding planOf symbolsIn
+    planFrom-skip q = rw (left-from, q, add-one)
+
+  -- Behind the last symbol it is empty
+  planFrom-end : (target : ℕ) → symbols ≤ target → planFrom subsets symbols wanted target ≡ []
+  unfolding planOf symbolsIn
+  planFrom-end target h =
+      let none : symbols - target ≡ 0 = omega arith in
+      rw none
+
+-- The steps for the symbols passed are written and their sources gathered, and those for the others remain
+pub record PlanRemaining (subsets : List ℕ) (symbols : ℕ) (wanted : ℕ → Bool) (lent buffer : List ℕ) (sources number target : ℕ) : Type 0 where
+  pub steps-remain : Remaining lent 0 (subsetPlan symbols wanted subsets) buffer number (planFrom subsets symbols wanted target)
+  pub sources-remain : SourcesRemain symbols (subsetPlan symbols wanted subsets) sources (planFrom subsets symbols wanted target)
 
 -- At the start none is written
-pub plan-all : (subsets : List ℕ) (symbols first height : ℕ) (lent : List ℕ)
-    → StepsFit 0 (planFor subsets symbols (symbolsFrom first height)) (length lent) → PlanRemaining subsets symbols first height lent lent 0 0 0
-plan-all subsets symbols first height lent fits =
-    let plan = planFor subsets symbols (symbolsFrom first height) in
-    let all = planFrom-all subsets symbols first height in
+pub plan-all : (subsets : List ℕ) (symbols : ℕ) (wanted : ℕ → Bool) (lent : List ℕ)
+    → StepsFit 0 (subsetPlan symbols wanted subsets) (length lent) → PlanRemaining subsets symbols wanted lent lent 0 0 0
+plan-all subsets symbols wanted lent fits =
+    let plan = subsetPlan symbols wanted subsets in
+    let all = planFrom-all subsets symbols wanted in
     record {
       steps-remain = subst (Remaining lent 0 plan lent 0) all (remaining-all lent 0 plan fits);
       sources-remain = subst (SourcesRemain symbols plan 0) all (sources-none symbols plan);
     }
 
-module _ {subsets : List ℕ} {symbols first height : ℕ} {lent buffer : List ℕ} {sources number row : ℕ}
-    (reached : PlanRemaining subsets symbols first height lent buffer sources number row) where
+module _ {subsets : List ℕ} {symbols : ℕ} (wanted : ℕ → Bool) {lent buffer : List ℕ} {sources number target : ℕ}
+    (reached : PlanRemaining subsets symbols wanted lent buffer sources number target) where
   abbrev plan : List Step
-  plan = planFor subsets symbols (symbolsFrom first height)
+  plan = subsetPlan symbols wanted subsets
 
-  -- The steps for the row's symbol come next
-  module _ (l : row < height) where
+  -- What remains, where the steps that remain are these
+  rest-as : {rest : List Step} → planFrom subsets symbols wanted target ≡ rest
+      → Remaining lent 0 plan buffer number rest × SourcesRemain symbols plan sources rest
+  rest-as e = (subst (Remaining lent 0 plan buffer number) e (reached .steps-remain), subst (SourcesRemain symbols plan sources) e (reached .sources-remain))
+
+  -- The steps for a wanted symbol come next
+  module _ (l : target < symbols) (q : wanted target ≡ true) where
     abbrev here : List Step
-    here = fillFrom (first + row) 0 symbols (getD subsets (first + row) 0)
+    here = fillFrom target 0 symbols (getD subsets target 0)
 
     abbrev behind : List Step
-    behind = planFrom subsets symbols first height (row + 1)
-
-    here-next : Remaining lent 0 plan buffer number (here ++ behind)
-    here-next = subst (Remaining lent 0 plan buffer number) (planFrom-next subsets symbols first height row l) (reached .steps-remain)
+    behind = planFrom subsets symbols wanted (target + 1)
 
     pub plan-fits : StepsFit number here (length buffer)
-    plan-fits = next-fits here behind here-next
+    plan-fits = next-fits here behind (rest-as (planFrom-next subsets symbols wanted target l q) .0)
 
-    pub plan-next : getD subsets (first + row) 0 < 2 ^ symbols → {buffer' : List ℕ} {sources' number' : ℕ} → buffer' ≡ withSteps buffer number here
-        → sources' ≡ bitOr sources (getD subsets (first + row) 0) → number' ≡ number + length here
-        → PlanRemaining subsets symbols first height lent buffer' sources' number' (row + 1)
+    pub plan-next : getD subsets target 0 < 2 ^ symbols → {buffer' : List ℕ} {sources' number' : ℕ} → buffer' ≡ withSteps buffer number here
+        → sources' ≡ bitOr sources (getD subsets target 0) → number' ≡ number + length here
+        → PlanRemaining subsets symbols wanted lent buffer' sources' number' (target + 1)
     plan-next below written gathered counted =
+        let next = rest-as (planFrom-next subsets symbols wanted target l q) in
         record {
-          steps-remain = remaining-next here behind here-next written counted;
-          sources-remain =
-              sources-next (first + row) symbols (getD subsets (first + row) 0) sources below
-              (subst (SourcesRemain symbols plan sources) (planFrom-next subsets symbols first height row l) (reached .sources-remain)) gathered;
+          steps-remain = remaining-next here behind (next .0) written counted;
+          sources-remain = sources-next target symbols (getD subsets target 0) sources below (next .1) gathered;
         }
 
-  -- Behind the last row all are written
-  pub plan-written : height ≤ row → (number ≡ length plan) × (buffer ≡ withSteps lent 0 plan)
-  plan-written h =
-      let end = remaining-none (subst (Remaining lent 0 plan buffer number) (planFrom-end subsets symbols first height row h) (reached .steps-remain)) in
-      (omega arith, end .1)
+  -- Any other symbol has no step
+  pub plan-skip : target < symbols → wanted target ≡ false → PlanRemaining subsets symbols wanted lent buffer sources number (target + 1)
+  plan-skip l q =
+      let rest = rest-as (planFrom-skip subsets symbols wanted target l q) in
+      record { steps-remain = rest .0; sources-remain = rest .1 }
 
-  -- and their number and sources can be told
-  pub plan-told : height ≤ row → Tells symbols plan (record { count = number; sources = sources })
-  plan-told h =
-      record {
-        count-is = plan-written h .0;
-        sources-below = reached .sources-remain .below;
-        sources-are = sources-end (subst (SourcesRemain symbols plan sources) (planFrom-end subsets symbols first height row h) (reached .sources-remain));
-      }
+  module _ (h : symbols ≤ target) where
+    -- Behind the last symbol all are written
+    pub plan-written : (number ≡ length plan) × (buffer ≡ withSteps lent 0 plan)
+    plan-written =
+        let end = remaining-none (rest-as (planFrom-end subsets symbols wanted target h) .0) in
+        (omega arith, end .1)
+
+    -- and their number and sources can be told
+    pub plan-told : Tells symbols plan (record { count = number; sources = sources })
+    plan-told =
+        record {
+          count-is = plan-written .0;
+          sources-below = reached .sources-remain .below;
+          sources-are = sources-end (rest-as (planFrom-end subsets symbols wanted target h) .1);
+        }
 
 -- ------------------------------------------------------------------
 -- The sheet
 
--- Nine stores are the head
-pub head-stored : (layout : Layout) (dataSymbols disk reads steps : ℕ) (buffer : List ℕ) → 9 ≤ length buffer
-    → sets buffer 0 (6 ∷ 1 ∷ layout .disks ∷ layout .height ∷ dataSymbols ∷ disk ∷ reads ∷ steps % 256 ∷ steps / 256 ∷ [])
-    ≡ planHead layout dataSymbols disk reads steps ++ drop 9 buffer
+-- Edition 2 has the list in its head, another edition has none
+module _ (edition : ℕ) (list : List ℕ) where
+  pub length-second : eqb edition 2 ≡ true → length (listBytes edition list) ≡ 1 + length list
+  length-second e = rw e (omega arith)
+
+  pub headBytes-second : eqb edition 2 ≡ true → headBytes edition list ≡ 10 + length list
+  headBytes-second e = omega (arith, length-second e)
+
+  pub headBytes-first : eqb edition 2 ≡ false → headBytes edition list ≡ 9
+  headBytes-first e = rw e
+
+  pub listBytes-small : length list < 256 → length (listBytes edition list) ≤ 256
+  listBytes-small small = bool-cases (λ c. length {A = ℕ} (cond c (length list ∷ list) []) ≤ 256) (omega arith) (omega arith) (eqb edition 2)
+
+  -- A buffer with the list of another edition is as it was
+  pub no-list-stored : (buffer : List ℕ) → eqb edition 2 ≡ false
+      → (7 ≡ 7 + length (listBytes edition list)) × (buffer ≡ take 7 buffer ++ listBytes edition list ++ drop (7 + length (listBytes edition list)) buffer)
+  no-list-stored buffer e =
+      rw e (refl, sym (ap (λ (b : List ℕ). b ++ drop 7 buffer) (append-nil (take 7 buffer)) ∙ take-append-drop 7 buffer))
+
+-- Seven stores are the first section
+pub section-stored : (head : PlanHead) (buffer : List ℕ) → 7 ≤ length buffer → sets buffer 0 (firstSection head) ≡ firstSection head ++ drop 7 buffer
+section-stored head buffer room = sets-eq (firstSection head) buffer 0 room
+
+-- The count and the entries copied behind it are the list
+pub list-stored : (list buffer : List ℕ) → 8 + length list ≤ length buffer
+    → paste (set buffer 7 (length list)) 8 list (length list) ≡ take 7 buffer ++ (length list ∷ list) ++ drop (8 + length list) buffer
+list-stored list buffer room =
+    ap₂ (λ (a b : List ℕ). a ++ b ++ drop (8 + length list) (set buffer 7 (length list))) (take-suc-set buffer 7 (length list) (omega arith)) (take-length list)
+    ∙ ap₂ (λ (a b : List ℕ). a ++ b) (append-assoc (take 7 buffer) (length list ∷ []) list) (drop-set-lt (8 + length list) buffer 7 (length list) (omega arith))
+
+-- So with edition 2's list the buffer is right
+pub second-stored : (edition : ℕ) (list buffer : List ℕ) → eqb edition 2 ≡ true → 7 + length (listBytes edition list) ≤ length buffer
+    → {written : List ℕ} {i : ℕ} → written ≡ paste (set buffer 7 (length list)) 8 list i → i ≡ length list
+    → (8 + length list ≡ 7 + length (listBytes edition list))
+    × (written ≡ take 7 buffer ++ listBytes edition list ++ drop (7 + length (listBytes edition list)) buffer)
+second-stored edition list buffer two room {written} {i} e all =
+    let long = length-second edition list two in
+    let behind : 8 + length list ≡ 7 + length (listBytes edition list) = omega (arith, long) in
+    let is-list : (length list ∷ list) ≡ listBytes edition list = rw two in (
+      behind,
+      e
+          ∙ ap (paste (set buffer 7 (length list)) 8 list) all
+          ∙ list-stored list buffer (omega (arith, room, long))
+          ∙ ap₂ (λ (b : List ℕ) (n : ℕ). take 7 buffer ++ b ++ drop n buffer) is-list behind,
+    )
+
+-- Bytes at the front of a buffer and others written behind them are one front
+front-grows : (front more lent : List ℕ) {buffer written : List ℕ} (at : ℕ) → length front ≡ at → buffer ≡ front ++ drop at lent
+    → written ≡ take at buffer ++ more ++ drop (at + length more) buffer
+    → written ≡ (front ++ more) ++ drop (at + length more) lent
+front-grows front more lent {buffer} at long e f =
+    f
+    ∙ ap (λ (b : List ℕ). take at b ++ more ++ drop (at + length more) b) e
+    ∙ ap₂ (λ (a b : List ℕ). a ++ more ++ b) (take-at front (drop at lent) at long)
+    (ap (λ (n : ℕ). drop (n + length more) (front ++ drop at lent)) (sym long)
+    ∙ drop-append-add front (drop at lent) (length more)
+    ∙ drop-drop (length more) at lent)
+
+-- The first section, the list and the step count are the head
+pub head-stored : (head : PlanHead) (list : List ℕ) (steps : ℕ) (lent : List ℕ) → headBytes (head .edition) list ≤ length lent
+    → {first second : List ℕ} {at : ℕ} → first ≡ firstSection head ++ drop 7 lent → at ≡ 7 + length (listBytes (head .edition) list)
+    → second ≡ take 7 first ++ listBytes (head .edition) list ++ drop (7 + length (listBytes (head .edition) list)) first
+    → set (set second at (steps % 256)) (at + 1) (steps / 256) ≡ planHead head list steps ++ drop (headBytes (head .edition) list) lent
 unfolding planHead
-head-stored layout dataSymbols disk reads steps buffer room = sets-eq (planHead layout dataSymbols disk reads steps) buffer 0 room
+head-stored head list steps lent room {first} {second} {at} e place f =
+    let written = listBytes (head .edition) list in
+    let front = front-grows (firstSection head) written lent 7 refl e f in
+    let long = length-append (firstSection head) written in
+    let whole : length second ≡ length lent =
+    omega (arith, ap {B = ℕ} length front, length-append (firstSection head ++ written) (drop (7 + length written) lent), long, length-drop (7 + length written) lent, room) in
+    ap₂ (λ (m n : ℕ). set (set second m (steps % 256)) n (steps / 256)) place (add-one at ∙ ap suc place)
+    ∙ front-grows (firstSection head ++ written) (steps % 256 ∷ steps / 256 ∷ []) lent (7 + length written) long front
+    (sets-eq (steps % 256 ∷ steps / 256 ∷ []) second (7 + length written) (omega (arith, whole, room)))
 
--- The steps, and then the head in front of them, are the sheet
-pub sheet-stored : (layout : Layout) (dataSymbols disk reads : ℕ) (plan : List Step) (lent : List ℕ) → planLength (length plan) ≤ length lent
-    → {written buffer : List ℕ} {steps : ℕ} → written ≡ withSteps lent 0 plan → steps ≡ length plan
-    → buffer ≡ planHead layout dataSymbols disk reads steps ++ drop 9 written
-    → buffer ≡ planSheet layout dataSymbols disk reads plan ++ drop (planLength (length plan)) lent
+-- Steps written into the part behind the head's place
+pub part-stored : (lent : List ℕ) (start : ℕ) → start ≤ length lent → {written plan : List Step} {part : List ℕ}
+    → part ≡ withSteps (take (length lent - start) (drop start lent)) 0 written → written ≡ plan
+    → putMid start (length lent - start) lent part ≡ take start lent ++ withSteps (drop start lent) 0 plan
+part-stored lent start within {plan = plan} e same =
+    ap₂ (λ (a b : List ℕ). take start lent ++ (a ++ b)) (e ∙ ap₂ (λ (b : List ℕ) (p : List Step). withSteps b 0 p) (part-to-end lent start) same) (post-is start (length lent) lent within ∙ drop-length lent)
+    ∙ ap (λ (b : List ℕ). take start lent ++ b) (append-nil (withSteps (drop start lent) 0 plan))
+
+-- The steps behind the head's place, and then the head in front of them, are the sheet
+pub sheet-stored : (head : PlanHead) (list : List ℕ) (plan : List Step) (lent : List ℕ) → headBytes (head .edition) list ≤ length lent
+    → {written buffer : List ℕ} {start steps : ℕ} → start ≡ headBytes (head .edition) list
+    → written ≡ take start lent ++ withSteps (drop start lent) 0 plan → steps ≡ length plan
+    → buffer ≡ planHead head list steps ++ drop (headBytes (head .edition) list) written
+    → buffer ≡ planSheet head list plan ++ drop (start + stepsLength steps) lent
 unfolding planSheet withSteps
-sheet-stored layout dataSymbols disk reads plan lent room {written} {buffer} {steps} e f g =
-    let head = planHead layout dataSymbols disk reads (length plan) in
-    let behind = drop (planLength (0 + length plan)) lent in
+sheet-stored head list plan lent room {written} {buffer} {start} {steps} place e f g =
+    let h = headBytes (head .edition) list in
+    let front = planHead head list (length plan) in
+    let behind = drop (stepsLength (0 + length plan)) (drop start lent) in
     g
-    ∙ ap₂ (λ (n : ℕ) (b : List ℕ). planHead layout dataSymbols disk reads n ++ drop 9 b) f e
-    ∙ ap (λ (b : List ℕ). head ++ drop 9 b) (append-assoc (take 9 lent) (stepsBytes plan) behind)
-    ∙ ap (λ (b : List ℕ). head ++ b) (drop-at (take 9 lent) (stepsBytes plan ++ behind) 9 (length-take-le 9 lent (omega arith)))
-    ∙ sym (append-assoc head (stepsBytes plan) behind)
-    ∙ ap (λ (n : ℕ). head ++ stepsBytes plan ++ drop (planLength n) lent) (zero-add (length plan))
+    ∙ ap₂ (λ (n : ℕ) (b : List ℕ). planHead head list n ++ drop h b) f e
+    ∙ ap (λ (b : List ℕ). front ++ b) (drop-at (take start lent) (stepsBytes plan ++ behind) h (length-take-le start lent (omega (arith, place, room)) ∙ place))
+    ∙ sym (append-assoc front (stepsBytes plan) behind)
+    ∙ ap (λ (b : List ℕ). front ++ stepsBytes plan ++ b)
+    (drop-drop (stepsLength (0 + length plan)) start lent ∙ ap (λ (n : ℕ). drop (start + stepsLength n) lent) (zero-add (length plan) ∙ sym f))
 
--- The numbers of an array's symbols, and of the failed disk's first symbol and rows
-pub record FailedStrip (layout : Layout) (disk symbols first height : ℕ) : Type 0 where
-  pub symbols-is : symbols ≡ symbolsOf layout
-  pub first-is : first ≡ firstSymbol layout disk
-  pub height-is : height ≡ heightOf layout disk
+-- ------------------------------------------------------------------
+-- What is told of the steps
 
-module _ {layout : Layout} {disk symbols first height : ℕ} (strip : FailedStrip layout disk symbols first height) (subsets : List ℕ) where
-  -- The steps for the strip are those for the failed disk
-  pub strip-plan : planFor subsets symbols (symbolsFrom first height) ≡ subsetPlan layout disk subsets
-  strip-plan = rw (strip .symbols-is, strip .first-is, strip .height-is)
-
+module _ (layout : Layout) (wanted : ℕ → Bool) (subsets : List ℕ) {symbols : ℕ} (symbols-is : symbols ≡ symbolsOf layout) where
   -- What writing the sheet needs is enough for its steps
-  pub strip-fits : {dataSymbols room : ℕ} → PlanFits layout dataSymbols disk subsets room → StripFits subsets symbols first height room
-  strip-fits fits =
-      let same = ap length strip-plan in
-      let small = fits .disk-within in
-      let inside = strip-within layout disk (small .disk-below) in
+  pub steps-writable : {edition dataSymbols disk start : ℕ} {list : List ℕ} (lent : List ℕ) → PlanFits edition layout dataSymbols disk list wanted subsets (length lent)
+      → start ≡ headBytes edition list → StepsWritable subsets symbols wanted (length (take (length lent - start) (drop start lent)))
+  steps-writable {start = start} lent fits place =
+      let same = ap {B = ℕ} (λ (n : ℕ). length (subsetPlan n wanted subsets)) symbols-is in
+      let long = ap {B = ℕ} length (part-to-end lent start) in
       record {
-        symbols-to = omega arith;
-        within = omega arith;
-        subsets-below = λ t. rw (strip .symbols-is) (fits .subsets-below t);
-        fits = record { steps-fit = omega (arith, fits .steps-fit); room = omega (arith, fits .room) };
+        symbols-to = omega (arith, fits .disk-within .symbols-to, symbols-is);
+        subsets-below = λ t. rw symbols-is (fits .subsets-below t);
+        fits = record { steps-fit = omega (arith, fits .steps-fit, same); room = omega (arith, fits .room, same, place, long, length-drop start lent) };
       }
 
-  module _ {steps : Steps} (told : Tells symbols (planFor subsets symbols (symbolsFrom first height)) steps) where
+  module _ {steps : Steps} (told : Tells symbols (subsetPlan symbols wanted subsets) steps) where
     -- The number of steps told is that of the plan
-    pub count-told : steps .count ≡ length (subsetPlan layout disk subsets)
-    count-told = told .count-is ∙ ap length strip-plan
+    pub count-told : steps .count ≡ length (subsetPlan (symbolsOf layout) wanted subsets)
+    count-told = told .count-is ∙ ap (λ (n : ℕ). length (subsetPlan n wanted subsets)) symbols-is
 
     -- and the count of the sources that of the symbols read
-    pub reads-told : {reads : ℕ} → reads ≡ count (steps .sources) → reads ≡ sourceCount layout (subsetPlan layout disk subsets)
+    pub reads-told : {reads : ℕ} → reads ≡ count (steps .sources) → reads ≡ sourceCount (symbolsOf layout) (subsetPlan (symbolsOf layout) wanted subsets)
     reads-told e =
         e
-        ∙ count-is-sourceCount layout (subsetPlan layout disk subsets) (steps .sources)
-        (subst (λ (n : ℕ). steps .sources < 2 ^ n) (strip .symbols-is) (told .sources-below))
-        (λ s. told .sources-are s ∙ ap (readByAny s) strip-plan)
+        ∙ count-is-sourceCount symbols (subsetPlan symbols wanted subsets) (steps .sources) (told .sources-below) (told .sources-are)
+        ∙ ap (λ (n : ℕ). sourceCount n (subsetPlan n wanted subsets)) symbols-is
 
     -- which are 64 at most
     pub few-reads : {reads : ℕ} → reads ≡ count (steps .sources) → symbols ≤ 64 → reads ≤ 64

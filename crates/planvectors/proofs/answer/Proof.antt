@@ -18,20 +18,8 @@ number-at-requires c κs = omega arith
 loop-holds : tie.Need-loop-holds Inv-loop μ-loop
 loop-holds c = tt
 
-rest-at-requires : tie.Need-rest-at-requires Inv-loop μ-loop
-rest-at-requires c κs = tt
-
-byte-at-requires-2 : tie.Need-byte-at-requires-2 Inv-loop μ-loop
-byte-at-requires-2 c κs = tt
-
-byte-at-requires-3 : tie.Need-byte-at-requires-3 Inv-loop μ-loop
-byte-at-requires-3 c κs = tt
-
-short-number-at-requires : tie.Need-short-number-at-requires Inv-loop μ-loop
-short-number-at-requires c κs = omega arith
-
-ask-with-requires : tie.Need-ask-with-requires Inv-loop μ-loop
-ask-with-requires c κs = tt
+ask-about-requires : tie.Need-ask-about-requires Inv-loop μ-loop
+ask-about-requires c κs = tt
 
 end-line-requires : tie.Need-end-line-requires Inv-loop μ-loop
 end-line-requires c κs = tt
@@ -63,11 +51,7 @@ answer-spec =
     byte-at-requires
     number-at-requires
     loop-holds
-    rest-at-requires
-    byte-at-requires-2
-    byte-at-requires-3
-    short-number-at-requires
-    ask-with-requires
+    ask-about-requires
     end-line-requires
     returns
     add-disk

@@ -1,22 +1,13 @@
--- `planvectors::gives_back` calls what requires nothing, its sum fits, and its slices keep their lengths. Assumes nothing.
+-- `planvectors::gives_back` calls what requires nothing, and its slices keep their lengths. Assumes nothing.
 use native.Mathlib.Omega.{arith}
 use Rattle.planvectors.proofs.gives_back.Statement.{statement}
 use Rattle.planvectors.proofs.gives_back.Tie as tie
 
-byte-at-requires : tie.Need-byte-at-requires
-byte-at-requires c κs = tt
+ruin-requires : tie.Need-ruin-requires
+ruin-requires c κs = tt
 
-product-requires : tie.Need-product-requires
-product-requires c κs = tt
-
-product-requires-2 : tie.Need-product-requires-2
-product-requires-2 c κs = tt
-
-add-fill : tie.Need-add-fill
-add-fill c = omega arith
-
-fill-requires : tie.Need-fill-requires
-fill-requires c κs = tt
+sheet-in-requires : tie.Need-sheet-in-requires
+sheet-in-requires c κs = tt
 
 rebuilds-requires : tie.Need-rebuilds-requires
 rebuilds-requires c κs = tt
@@ -27,6 +18,9 @@ same-requires c κs = tt
 same-length : tie.Need-same-length
 same-length c = omega arith
 
+same-length-2 : tie.Need-same-length-2
+same-length-2 c = omega arith
+
 returns : tie.Need-returns
 returns c = tt
 
@@ -34,12 +28,10 @@ pub gives-back-spec : {M : Type 1} → statement M
 gives-back-spec =
     tie.close
     (tie.spec
-    byte-at-requires
-    product-requires
-    product-requires-2
-    add-fill
-    fill-requires
+    ruin-requires
+    sheet-in-requires
     rebuilds-requires
     same-requires
     same-length
+    same-length-2
     returns)

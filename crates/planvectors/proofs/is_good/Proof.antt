@@ -4,6 +4,9 @@ use borrow.Author.Needs.{needs}
 use Rattle.planvectors.proofs.is_good.Statement.{statement}
 use Rattle.planvectors.proofs.is_good.Tie as tie
 
+sheet-in-requires : tie.Need-sheet-in-requires
+sheet-in-requires c κs = tt
+
 spread-requires : tie.Need-spread-requires
 spread-requires c κs = tt
 
@@ -50,6 +53,7 @@ pub is-good-spec : {M : Type 1} → statement M
 is-good-spec =
     tie.close
     (tie.spec
+    sheet-in-requires
     spread-requires
     byte-at-requires
     byte-at-requires-2

@@ -4,11 +4,17 @@ use borrow.Author.Needs.{needs}
 use Rattle.planvectors.proofs.restores.Statement.{statement}
 use Rattle.planvectors.proofs.restores.Tie as tie
 
-add-size : tie.Need-add-size
-add-size c = omega arith
+sheet-in-requires : tie.Need-sheet-in-requires
+sheet-in-requires c κs = tt
 
 byte-at-requires : tie.Need-byte-at-requires
 byte-at-requires c κs = tt
+
+add-size : tie.Need-add-size
+add-size c = omega arith
+
+byte-at-requires-2 : tie.Need-byte-at-requires-2
+byte-at-requires-2 c κs = tt
 
 product-requires : tie.Need-product-requires
 product-requires c κs = tt
@@ -25,8 +31,8 @@ room-requires-2 c κs = tt
 slice-aggregate-front-of : tie.Need-slice-aggregate-front-of
 slice-aggregate-front-of c = search needs
 
-byte-at-requires-2 : tie.Need-byte-at-requires-2
-byte-at-requires-2 c κs = tt
+byte-at-requires-3 : tie.Need-byte-at-requires-3
+byte-at-requires-3 c κs = tt
 
 product-requires-2 : tie.Need-product-requires-2
 product-requires-2 c κs = tt
@@ -62,14 +68,16 @@ pub restores-spec : {M : Type 1} → statement M
 restores-spec =
     tie.close
     (tie.spec
-    add-size
+    sheet-in-requires
     byte-at-requires
+    add-size
+    byte-at-requires-2
     product-requires
     filled-requires
     room-requires
     room-requires-2
     slice-aggregate-front-of
-    byte-at-requires-2
+    byte-at-requires-3
     product-requires-2
     front-of-requires
     sub-restores-from

@@ -3,6 +3,9 @@ use native.Mathlib.Omega.{arith}
 use Rattle.planvectors.proofs.restores_from.Statement.{statement}
 use Rattle.planvectors.proofs.restores_from.Tie as tie
 
+sheet-in-requires : tie.Need-sheet-in-requires
+sheet-in-requires c κs = tt
+
 encodes-requires : tie.Need-encodes-requires
 encodes-requires c κs = tt
 
@@ -25,6 +28,7 @@ pub restores-from-spec : {M : Type 1} → statement M
 restores-from-spec =
     tie.close
     (tie.spec
+    sheet-in-requires
     encodes-requires
     encodes-requires-2
     gives-back-requires
