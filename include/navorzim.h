@@ -14,8 +14,11 @@
  *   L            bytes in a symbol                                        1 to 65,536
  *
  *   sheet        a code sheet: n, r, K and the generator matrix           22 to 518 bytes, 6 + 8 * N
- *   plan         a plan sheet: the steps that rebuild one disk            9 to 3,081 bytes, 9 + 3 * steps
+ *   plan         a plan sheet: the steps that rebuild one disk, or        9 to 3,114 bytes, see below
+ *                some of its symbols
  *   disk         the failed disk, or the one asked for                    0 to n - 1
+ *   wanted       the numbers of the symbols to be rebuilt, a byte each,   1 to r bytes
+ *                rising, all on the failed disk
  *   size         L
  *   contents     the data symbols one after the other                     K * L bytes
  *   stripe       all symbols one after the other; symbol s, which is      N * L bytes
@@ -26,6 +29,28 @@
  *   .._length    the bytes of the buffer named before it
  *
  * A symbol is the XOR of the data symbols whose bits are set in its row of the generator matrix. Bit 0 is the lowest.
+ *
+ *
+ * Plan sheets
+ *
+ * A plan rebuilds the failed disk's WANTED symbols. A sheet of edition 1 wants the whole disk; one of edition 2 lists m symbols.
+ *
+ *   byte     edition 1                        byte       edition 2
+ *   0        6                                0          6
+ *   1        1                                1          2
+ *   2, 3, 4  n, r, K                          2, 3, 4    n, r, K
+ *   5        the failed disk                  5          the failed disk
+ *   6        how many symbols are read        6          how many symbols are read
+ *                                             7          m, 1 to r
+ *                                             8          the m wanted symbols, a byte each, rising, all on the failed disk
+ *   7        how many steps, at most 1,024,   8 + m      how many steps, at most 1,024, in 2 bytes, low byte first
+ *            in 2 bytes, low byte first
+ *   9        the steps, 3 bytes each          10 + m     the steps, 3 bytes each
+ *
+ * A step is kind, target, source. Kind 0, clear: the target becomes zero, and the source byte is 0. Kind 1, copy: the target becomes the
+ * source. Kind 2, add: the target becomes target XOR source. A target is a wanted symbol. A source survives, or is a wanted symbol that an
+ * earlier step has filled; clear and copy fill their target, add needs it filled.
+ * The symbols that are read are the distinct surviving sources of copies and adds.
  *
  *
  * Answers and refusals
@@ -43,26 +68,30 @@
  *    7      the disk isn't below n
  *   11, 12  the plan sheet is too short, too long
  *   13      its first count isn't 6, or it has more than 1,024 steps
- *   14      its edition isn't 1
+ *   14      its edition isn't 1 or 2
  *   15      its n, r or K isn't the code's
  *   16      its failed disk isn't the one asked about
  *   17      a step's kind is above 2, a number isn't below N, or a clear has a source  the step, from 0
- *   18      a step's target isn't on the failed disk                                   the step
+ *   18      a step's target isn't a wanted symbol of the failed disk                   the step
  *   19      a step uses a lost place that no earlier step has filled                   the step
- *   20      a lost symbol is never filled                                              its row, the lowest
- *   21      a lost symbol ends wrong                                                   its row, the lowest
+ *   20      a wanted symbol is never filled                                            its row of the disk, the lowest
+ *   21      a wanted symbol ends wrong                                                 its row of the disk, the lowest
  *   22      the plan's read count isn't the true one                                   the true count
+ *   23      the list of wanted symbols has no entry, or more than r                    0
+ *           an entry isn't above the one before it, or isn't on the failed disk        its position in the list, from 0
  *   31      L is 0 or above 65,536
  *   32      the stripe isn't N * L bytes
  *   33      the data aren't K * L bytes
- *   34      the plan buffer has fewer than 3,081 bytes
+ *   34      the plan buffer has fewer than 3,081 bytes, or 3,114 with a list
  *   35      the spare strip isn't r * L bytes
  *   36      the family has no such parameters, or its n, N or r is above a limit
  *   37      the sheet buffer is shorter than the sheet to be written
  *   38      the symbol isn't below N
  *
  * The order of "the code sheet's" is 1 (under 6 bytes), 3 (first count), 4, 5, 3 (second count), 1, 2, 6. That of "the plan sheet's" is
- * 11 (under 9 bytes), 13 (first count), 14, 15, 16, 13 (steps), 11, 12; then 17, 18, 19 of each step in turn; then 20, 21, 22.
+ * 11 (under 9 bytes), 13 (first count), 14, 15, 16; then in edition 1 13 (steps), 11, 12, and in edition 2 11 (the sheet ends before the
+ * step count does), 13 (steps), 23, 11, 12; then 17, 18, 19 of each step in turn; then 20 over the wanted symbols, 21 over the wanted
+ * symbols, 22.
  *
  *
  * Buffers
@@ -83,9 +112,10 @@
 extern "C" {
 #endif
 
-/* No sheet is longer than this: a buffer of this length always suffices. A plan buffer must have this length. */
+/* No code sheet and no plan sheet is longer than this: a buffer of this length always suffices. A buffer for navorzim_plan must have 3,081
+ * bytes or more, and one for navorzim_plan_wanted 3,114 or more: NAVORZIM_PLAN_BYTES is enough for both. */
 #define NAVORZIM_SHEET_BYTES 518
-#define NAVORZIM_PLAN_BYTES 3081
+#define NAVORZIM_PLAN_BYTES 3114
 
 /* Nothing refused (0, 0), or the refusal. */
 typedef struct {
@@ -103,7 +133,7 @@ typedef struct {
 } navorzim_checked;
 
 /* Exactly one of number, length and pattern is not 0. number: refused. length: a plan of so many bytes, and it reads so many symbols.
- * pattern: no plan exists, and this is why (see navorzim_plan). */
+ * pattern: no plan exists, and this is why (see navorzim_plan and navorzim_plan_wanted). */
 typedef struct {
     uint64_t number, place, length, reads, pattern;
 } navorzim_planned;
@@ -136,26 +166,37 @@ navorzim_verdict navorzim_encode(const uint8_t *sheet, size_t sheet_length, uint
                                  uint8_t *stripe, size_t stripe_length);
 
 /* ---------------------------------------------------------------------------------------------------------------------------------
- * Check: is this plan right for this code and this failed disk? It is accepted exactly when it brings back every lost symbol of every
- * valid stripe, whatever the lost strip holds, from surviving symbols and places that it has filled itself, and states the number of
- * symbols that it reads. Writes nothing.
+ * Check: is this plan right for this code and this failed disk? It is accepted exactly when it brings back every wanted symbol of every
+ * valid stripe, whatever the lost strip holds, from surviving symbols and wanted places that it has filled itself, writes no other place,
+ * and states the number of symbols that it reads. Plan sheets of both editions are taken. Writes nothing.
  * Refusals: the code sheet's, 7, the plan sheet's. */
 navorzim_checked navorzim_check(const uint8_t *sheet, size_t sheet_length, uint64_t disk, const uint8_t *plan, size_t plan_length);
 
 /* ---------------------------------------------------------------------------------------------------------------------------------
  * Plan: how can this disk be rebuilt from the others?
- * If it can, a plan sheet is written to the front of the buffer, which must have 3,081 bytes or more, and its length and read count are
- * answered; the bytes behind it stay. The plan has at most r * (N - r) steps, and navorzim_check accepts these very bytes with this very
- * count. It need not be the one that reads the fewest symbols.
+ * If it can, a plan sheet of edition 1 is written to the front of the buffer, which must have 3,081 bytes or more, and its length and read
+ * count are answered; the bytes after it stay. The plan has at most r * (N - r) steps, and navorzim_check accepts these very bytes with
+ * this very count. It need not be the one that reads the fewest symbols.
  * If it can't, by any plan of any length, nothing is written and a pattern is answered: K bits, not all 0. The stripe of the data in which
  * the symbols of the set bits are 01 bytes and the others 0 is 0 on every surviving disk and not 0 on the lost one.
  * Refusals: the code sheet's, 7, 34. */
 navorzim_planned navorzim_plan(const uint8_t *sheet, size_t sheet_length, uint64_t disk, uint8_t *buffer, size_t buffer_length);
 
+/* Plan for some symbols: how can the wanted symbols of this disk, and no others, be rebuilt? That may be possible where the whole disk is
+ * beyond help, and may read fewer symbols. The list is bytes, one for each wanted symbol's number: 1 to r of them, rising, all on the disk.
+ * If it can be done, a plan sheet of edition 2 with exactly this list is written to the front of the buffer, which must have 3,114 bytes or
+ * more, and its length and read count are answered; the bytes after it stay. The plan has at most r * (N - r) steps, and navorzim_check
+ * accepts these very bytes with this very count. It need not be the one that reads the fewest symbols.
+ * If it can't, by any plan of any length, nothing is written and a pattern is answered: K bits, not all 0. The stripe of the data in which
+ * the symbols of the set bits are 01 bytes and the others 0 is 0 on every surviving disk and not 0 in some wanted symbol.
+ * Refusals: the code sheet's, 7, 23, 34. */
+navorzim_planned navorzim_plan_wanted(const uint8_t *sheet, size_t sheet_length, uint64_t disk, const uint8_t *wanted, size_t wanted_length,
+                                      uint8_t *buffer, size_t buffer_length);
+
 /* ---------------------------------------------------------------------------------------------------------------------------------
- * Rebuild: checks the plan, on every call, and then runs its steps on the stripe. The r * L bytes of the failed disk are written, from
- * byte disk * r * L on; all others stay. Of a valid stripe with that strip ruined it makes that stripe again. What is written never depends
- * on what the lost strip held.
+ * Rebuild: checks the plan, on every call, and then runs its steps on the stripe. The wanted symbols are written, and all other bytes stay,
+ * also those of lost symbols that aren't wanted. A plan of edition 1 wants the whole disk: the r * L bytes from byte disk * r * L on. Of a
+ * valid stripe with its wanted symbols ruined it makes that stripe again. What is written never depends on what the lost strip held.
  * Refusals: those of navorzim_check, 31, 32. */
 navorzim_verdict navorzim_rebuild(const uint8_t *sheet, size_t sheet_length, uint64_t disk, const uint8_t *plan, size_t plan_length,
                                   uint64_t size, uint8_t *stripe, size_t stripe_length);

@@ -1,4 +1,5 @@
-/* A disk of a Liberation array (w 5, k 5) dies and is rebuilt; then its plan, under another layout, is turned away.
+/* A disk of a Liberation array (w 5, k 5) dies; one row of it is rebuilt, then all of it; then its plan, under another layout, is turned
+ * away.
  *
  *     rt staticlib capi
  *     gcc -Wall -Iinclude examples/c/rebuild.c target/staticlib/libcapi.a -o target/rebuild && target/rebuild
@@ -36,7 +37,15 @@ int main(void) {
     memcpy(stripe, whole, sizeof stripe);
     memset(stripe, 0xdb, STRIP);
 
-    /* a plan, looked at once more by the checker, and run */
+    /* somebody waits for row 2: a plan for that symbol alone, and no other byte changes */
+    const uint8_t wanted[] = {2};
+    navorzim_planned row = navorzim_plan_wanted(sheet, code.length, 0, wanted, sizeof wanted, plan, sizeof plan);
+    must(row.number == 0 && row.length > 0, "planning for a row");
+    must(navorzim_rebuild(sheet, code.length, 0, plan, row.length, L, stripe, sizeof stripe).number == 0, "rebuilding a row");
+    must(memcmp(stripe + 2 * L, whole + 2 * L, L) == 0 && stripe[2 * L - 1] == 0xdb && stripe[3 * L] == 0xdb, "the rebuilt row");
+    printf("row 2 of disk 0 is back, from %zu symbols\n", (size_t)row.reads);
+
+    /* a plan for the disk, looked at once more by the checker, and run */
     navorzim_planned planned = navorzim_plan(sheet, code.length, 0, plan, sizeof plan);
     must(planned.number == 0 && planned.length > 0, "planning");
     navorzim_checked checked = navorzim_check(sheet, code.length, 0, plan, planned.length);

@@ -70,6 +70,15 @@ extern "C" {
     ) -> Verdict;
     fn navorzim_check(sheet: Bytes, sheet_length: usize, disk: u64, plan: Bytes, plan_length: usize) -> Checked;
     fn navorzim_plan(sheet: Bytes, sheet_length: usize, disk: u64, buffer: BytesMut, buffer_length: usize) -> Planned;
+    fn navorzim_plan_wanted(
+        sheet: Bytes,
+        sheet_length: usize,
+        disk: u64,
+        wanted: Bytes,
+        wanted_length: usize,
+        buffer: BytesMut,
+        buffer_length: usize,
+    ) -> Planned;
     fn navorzim_rebuild(
         sheet: Bytes,
         sheet_length: usize,
@@ -154,6 +163,20 @@ pub fn check(sheet: &[u8], disk: u64, plan: &[u8]) -> Checked {
 
 pub fn plan(sheet: &[u8], disk: u64, buffer: &mut [u8]) -> Planned {
     unsafe { navorzim_plan(sheet.as_ptr(), sheet.len(), disk, buffer.as_mut_ptr(), buffer.len()) }
+}
+
+pub fn plan_wanted(sheet: &[u8], disk: u64, wanted: &[u8], buffer: &mut [u8]) -> Planned {
+    unsafe {
+        navorzim_plan_wanted(
+            sheet.as_ptr(),
+            sheet.len(),
+            disk,
+            wanted.as_ptr(),
+            wanted.len(),
+            buffer.as_mut_ptr(),
+            buffer.len(),
+        )
+    }
 }
 
 pub fn rebuild(sheet: &[u8], disk: u64, plan: &[u8], size: u64, stripe: &mut [u8]) -> Verdict {

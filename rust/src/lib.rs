@@ -2,11 +2,11 @@
 //!
 //! The work is done by a library written in Rattle, in which every function is proved to meet its contract; this crate is its
 //! safe face. Each call tests everything itself, never panics, keeps nothing between calls, and a refused call changes no byte
-//! that it was lent. A refusal carries the number and place that document 01, the rules, gives it.
+//! that it was lent. A refusal carries the number and place that the rules, documents 01 and 02, give it.
 //!
 //! An array has n disks of r symbols of L bytes each, N = n × r in all, and K data symbols. A *code sheet* (22 to 518 bytes)
-//! says which data symbols each symbol is the XOR of; a *stripe* is N × L bytes, symbol s at s × L; a *plan sheet* (9 to 3,081
-//! bytes) says how to bring a lost disk's strip back.
+//! says which data symbols each symbol is the XOR of; a *stripe* is N × L bytes, symbol s at s × L; a *plan sheet* (9 to 3,114
+//! bytes) says how to bring the *wanted* symbols of a lost disk back: in edition 1 all of them, in edition 2 those of a list.
 //!
 //! ```
 //! use navorzim::{check, encode, make_plan, rebuild, Family, Planning};
@@ -25,6 +25,8 @@
 //! assert_eq!(stripe, whole);
 //! # Ok::<(), navorzim::Refusal>(())
 //! ```
+//!
+//! Where one record is enough, [`plan_wanted`] plans for some of the lost symbols, and the same [`check`] and [`rebuild`] take its plan.
 #![deny(unsafe_code)]
 #![warn(missing_docs)]
 
@@ -36,8 +38,9 @@ pub use refusal::Refusal;
 /// The length of the longest code sheet.
 pub const LONGEST_CODE_SHEET: usize = 518;
 
-/// The length of the longest plan sheet, and of the buffer that planning asks for.
-pub const PLAN_BUFFER: usize = 3081;
+/// The length of the longest plan sheet. A buffer of this length suffices for every plan: [`plan`] asks for 3,081 bytes or more,
+/// [`plan_wanted_into`] for 3,114.
+pub const PLAN_BUFFER: usize = 3114;
 
 /// A family of codes that can be asked for by name.
 #[derive(Clone, Copy, Debug, PartialEq, Eq)]
@@ -98,9 +101,9 @@ pub fn encode(sheet: &[u8], symbol_length: u64, data: &[u8], stripe: &mut [u8]) 
     unless_refused(verdict.number, verdict.place, ())
 }
 
-/// Judges a plan sheet for a code sheet and a failed disk; answers how many surviving symbols it reads.
+/// Judges a plan sheet, of edition 1 or 2, for a code sheet and a failed disk; answers how many surviving symbols it reads.
 ///
-/// Refused: the code sheet (1 to 6), 7, the plan (11 to 22).
+/// Refused: the code sheet (1 to 6), 7, the plan (11 to 23).
 pub fn check(sheet: &[u8], disk: u64, plan: &[u8]) -> Result<u64, Refusal> {
     let checked = ffi::check(sheet, disk, plan);
     unless_refused(checked.number, checked.place, checked.reads)
@@ -116,11 +119,12 @@ pub enum Planned {
         /// how many surviving symbols it reads
         reads: u64,
     },
-    /// The disk can't be rebuilt by any plan: data with these bits gives zero on every surviving symbol and not on the lost disk.
+    /// The wanted symbols can't all be rebuilt by any plan: data with these bits gives zero in every surviving symbol and not in some
+    /// wanted one. [`plan`] wants the whole disk.
     Pattern(u64),
 }
 
-/// What [`make_plan`] answers.
+/// What [`make_plan`] and [`plan_wanted`] answer.
 #[derive(Clone, Debug, PartialEq, Eq)]
 pub enum Planning {
     /// A plan.
@@ -134,17 +138,11 @@ pub enum Planning {
     Pattern(u64),
 }
 
-/// Plans the rebuild of a disk into a buffer of at least [`PLAN_BUFFER`] bytes; bytes behind the plan stay, and a pattern writes nothing.
+/// Plans the rebuild of a disk into a buffer of at least 3,081 bytes; bytes after the plan stay, and a pattern writes nothing.
 ///
 /// Refused: the code sheet (1 to 6), 7, 34.
 pub fn plan(sheet: &[u8], disk: u64, buffer: &mut [u8]) -> Result<Planned, Refusal> {
-    let planned = ffi::plan(sheet, disk, buffer);
-    let answer = if planned.length > 0 {
-        Planned::Plan { length: planned.length as usize, reads: planned.reads }
-    } else {
-        Planned::Pattern(planned.pattern)
-    };
-    unless_refused(planned.number, planned.place, answer)
+    planned(ffi::plan(sheet, disk, buffer))
 }
 
 /// Plans the rebuild of a disk.
@@ -156,17 +154,68 @@ pub fn plan(sheet: &[u8], disk: u64, buffer: &mut [u8]) -> Result<Planned, Refus
 /// assert_eq!(make_plan(&apart, 0), Ok(Planning::Pattern(1)));
 /// ```
 pub fn make_plan(sheet: &[u8], disk: u64) -> Result<Planning, Refusal> {
-    let mut sheet_bytes = vec![0; PLAN_BUFFER];
-    Ok(match plan(sheet, disk, &mut sheet_bytes)? {
+    owned(|buffer| plan(sheet, disk, buffer))
+}
+
+/// Plans the rebuild of some symbols of a disk into a buffer of at least [`PLAN_BUFFER`] bytes; bytes after the plan stay, and a pattern
+/// writes nothing. `wanted` is as for [`plan_wanted`].
+///
+/// Refused: the code sheet (1 to 6), 7, 23, 34.
+pub fn plan_wanted_into(sheet: &[u8], disk: u64, wanted: &[u8], buffer: &mut [u8]) -> Result<Planned, Refusal> {
+    planned(ffi::plan_wanted(sheet, disk, wanted, buffer))
+}
+
+/// Plans the rebuild of some symbols of a disk: `wanted` holds their numbers, disk × r + row, rising. The plan sheet is of edition 2 and
+/// wants exactly these; a rebuild by it leaves the disk's other symbols as they are. It may exist where the whole disk has no plan.
+///
+/// Refused: the code sheet (1 to 6), 7, 23.
+///
+/// ```
+/// use navorzim::{check, encode, plan_wanted, rebuild, Family, Planning, Refusal};
+///
+/// let sheet = Family::SingleParity { data_disks: 3, rows: 4 }.sheet()?;
+/// let mut stripe = [0; 16];
+/// encode(&sheet, 1, &[1, 2, 3, 4, 5, 6, 7, 8, 9, 10, 11, 12], &mut stripe)?;
+/// stripe[4..8].fill(0xff);
+///
+/// // Of disk 1, symbols 4 to 7, only row 2 is waited for.
+/// let Planning::Plan { plan, reads } = plan_wanted(&sheet, 1, &[6])? else { panic!("single parity survives one disk") };
+/// assert_eq!((reads, check(&sheet, 1, &plan)), (3, Ok(3)));
+/// rebuild(&sheet, 1, &plan, 1, &mut stripe)?;
+/// assert_eq!(stripe[4..8], [0xff, 0xff, 7, 0xff]);
+///
+/// // Lists rise, and stay on the disk.
+/// assert_eq!(plan_wanted(&sheet, 1, &[5, 6, 6]), Err(Refusal::BadWantedList { position: 2 }));
+/// assert_eq!(plan_wanted(&sheet, 1, &[3]), Err(Refusal::BadWantedList { position: 0 }));
+/// # Ok::<(), Refusal>(())
+/// ```
+pub fn plan_wanted(sheet: &[u8], disk: u64, wanted: &[u8]) -> Result<Planning, Refusal> {
+    owned(|buffer| plan_wanted_into(sheet, disk, wanted, buffer))
+}
+
+/// Planning's answer, by its case.
+fn planned(answer: ffi::Planned) -> Result<Planned, Refusal> {
+    let case = if answer.length > 0 {
+        Planned::Plan { length: answer.length as usize, reads: answer.reads }
+    } else {
+        Planned::Pattern(answer.pattern)
+    };
+    unless_refused(answer.number, answer.place, case)
+}
+
+/// Plans into a buffer of its own, which becomes the plan.
+fn owned(plan_into: impl FnOnce(&mut [u8]) -> Result<Planned, Refusal>) -> Result<Planning, Refusal> {
+    let mut buffer = vec![0; PLAN_BUFFER];
+    Ok(match plan_into(&mut buffer)? {
         Planned::Plan { length, reads } => {
-            sheet_bytes.truncate(length);
-            Planning::Plan { plan: sheet_bytes, reads }
+            buffer.truncate(length);
+            Planning::Plan { plan: buffer, reads }
         }
         Planned::Pattern(pattern) => Planning::Pattern(pattern),
     })
 }
 
-/// Rebuilds the strip of a failed disk by a plan, which is checked on every call.
+/// Rebuilds the wanted symbols of a failed disk by a plan, which is checked on every call; all other bytes stay.
 ///
 /// Refused: as [`check`], then 31, 32.
 pub fn rebuild(sheet: &[u8], disk: u64, plan: &[u8], symbol_length: u64, stripe: &mut [u8]) -> Result<(), Refusal> {

@@ -288,7 +288,137 @@ fn a_disk_without_a_plan_has_a_pattern() {
     let pattern = ran.out.split("The pattern is ").nth(1).expect("a pattern");
     let pattern: u64 = pattern.split(',').next().unwrap().parse().expect("number");
     let code = model::read_code(&folder.get("sums")).expect("good");
-    assert!(model::good_pattern(&code, 0, pattern, 3), "{pattern}");
+    assert!(model::good_pattern(&code, 0, &[0, 1], pattern, 3), "{pattern}");
+}
+
+/// Three data disks of two rows and a parity disk whose row 1 leaves disk 1 out.
+fn thin_sheet() -> Vec<u8> {
+    sheet(4, 2, 6, &[1, 2, 4, 8, 16, 32, 1 + 4 + 16, 2 + 32])
+}
+
+#[test]
+fn some_rows_are_planned_checked_and_rebuilt() {
+    let folder = Folder::new();
+    let (_, stripes) = liberation_stripes(&folder, 4);
+    for (want, rows) in [
+        ("0", &[0][..]),
+        ("4", &[4]),
+        ("1,3", &[1, 3]),
+        ("3,1", &[1, 3]),
+        ("2,2,s17", &[2]),
+        ("s16,s19", &[1, 4]),
+        ("0-2", &[0, 1, 2]),
+        ("s18-s19,0", &[0, 3, 4]),
+        ("0-4,s15-s19", &[0, 1, 2, 3, 4]),
+    ] {
+        let said = folder.done(&format!("plan code 3 --want {want} -o plan"));
+        let (sheet, plan) = (folder.get("code"), folder.get("plan"));
+        let list: Vec<u8> = rows.iter().map(|row| 15 + row).collect();
+        assert_eq!((plan[1], plan[7], &plan[8..8 + list.len()]), (2, list.len() as u8, &list[..]), "{want}");
+        let reads = model::check(&sheet, 3, &plan).expect("accepted");
+        let named: Vec<String> = rows.iter().map(u8::to_string).collect();
+        let named = format!("disk 3 row{} {}", if rows.len() == 1 { "" } else { "s" }, named.join(" "));
+        assert!(said.ends_with(&format!(" steps, reads {reads} symbols, brings back {named}\n")), "{said}");
+        let said = folder.done("check code 3 plan");
+        assert_eq!(said, format!("accepted, reads {reads} symbols, brings back {named}\n"));
+
+        // The wanted symbols are back, and every other byte is as the stripes had it.
+        let ruined = ruined(&stripes, 3);
+        folder.put("stripes", &ruined);
+        let said = folder.done("rebuild code 3 plan --symbol 64 stripes");
+        assert_eq!(said, format!("rebuilt {named} in 4 stripes: stripes\n"));
+        let mut expected = ruined.clone();
+        for (place, byte) in expected.iter_mut().enumerate() {
+            if list.contains(&((place / 64 % 35) as u8)) {
+                *byte = stripes[place];
+            }
+        }
+        assert!(folder.get("stripes") == expected, "{want}");
+    }
+}
+
+#[test]
+fn lists_that_do_not_fit_the_disk_are_refused() {
+    let folder = Folder::new();
+    liberation_stripes(&folder, 1);
+    for (disk, want, place, detail) in [
+        (0, "5", 0, "it is symbol 5, disk 0 has 0 to 4, its rows 0 to 4"),
+        (1, "0,9", 1, "it is symbol 14, disk 1 has 5 to 9, its rows 0 to 4"),
+        (1, "4,s4", 0, "it is symbol 4, disk 1 has 5 to 9"),
+        (6, "s34,s35", 1, "it is symbol 35, disk 6 has 30 to 34"),
+        (6, "s300,0", 1, "it is symbol 300, disk 6 has 30 to 34"),
+        (6, "4,s255", 1, "it is symbol 255"),
+        (2, "18446744073709551615,1", 1, "it is symbol 18446744073709551615"),
+        (2, "0-5", 0, "it has 6 symbols, disk 2 has 5 rows"),
+        (2, "0-255,s256-s511", 0, "it has 502 symbols, disk 2 has 5 rows"),
+    ] {
+        let sentence = folder.refused(&format!("plan code {disk} --want {want} -o out"), 23, place);
+        assert!(sentence.contains(detail) && sentence.ends_with("(code)"), "{want}: {sentence}");
+        folder.refused(&format!("show code --disk {disk} --want {want} --svg out"), 23, place);
+    }
+    let sentence = folder.refused("plan code 0 --want 3,7 -o out", 23, 1);
+    let said = "entry 1 of the list of wanted symbols doesn't rise or isn't on the failed disk: it is symbol 7";
+    assert!(sentence.starts_with(said), "{sentence}");
+    // The disk goes before the list, and the code sheet before both.
+    folder.refused("plan code 7 --want 9 -o out", 7, 0);
+    folder.refused("plan code 18446744073709551615 --want 0 -o out", 7, 0);
+    folder.put("code", &folder.get("code")[..100]);
+    folder.refused("plan code 7 --want 9 -o out", 1, 0);
+}
+
+#[test]
+fn bad_lists_in_plans_are_explained() {
+    let folder = Folder::square();
+    for (list, place, detail) in [
+        (&[0u8, 0, 4][..], 0, "it has 3 symbols, disk 0 has 2 rows"),
+        (&[], 0, "it has 0 symbols, disk 0 has 2 rows"),
+        (&[2], 0, "it is symbol 2, disk 0 has 0 to 1, its rows 0 to 1"),
+        (&[0, 0], 1, "it is symbol 0, after symbol 0"),
+        (&[1, 0], 1, "it is symbol 0, after symbol 1"),
+        (&[0, 255], 1, "it is symbol 255, disk 0 has 0 to 1"),
+    ] {
+        let plan = [&[6, 2, 4, 2, 4, 0, 0, list.len() as u8][..], list, &[0, 0]].concat();
+        folder.put("plan", &plan);
+        assert_eq!(model::check(&square_sheet(), 0, &plan), Err((23, place)));
+        for line in ["check code 0 plan", "show code --disk 0 --plan plan", "rebuild code 0 plan --symbol 1 stripes"] {
+            let sentence = folder.refused(line, 23, place);
+            assert!(sentence.contains(detail) && sentence.ends_with("(plan)"), "{sentence}");
+        }
+    }
+    // A target that isn't wanted, a lost source that isn't, and a wanted row that is never filled.
+    for (steps, number, place) in [(&[1, 0, 0, 0, 0][..], 18, 0), (&[1, 0, 1, 1, 0], 19, 0), (&[0, 0], 20, 1)] {
+        folder.put("plan", &[&[6, 2, 4, 2, 4, 0, 0, 1, 1][..], steps].concat());
+        folder.refused("check code 0 plan", number, place);
+    }
+    folder.put("plan", &p2_with(1, 3));
+    let sentence = folder.refused("check code 0 plan", 14, 0);
+    assert_eq!(sentence, "the plan sheet's edition isn't 1 or 2: it is 3 (plan)");
+}
+
+#[test]
+fn a_row_of_a_disk_beyond_help_has_a_plan() {
+    let folder = Folder::new();
+    folder.put("thin", &thin_sheet());
+    let ran = folder.fails("plan thin 1 -o plan", 1);
+    assert_eq!(ran.err, "navorzim: disk 1 can't be rebuilt by any plan (thin)\n");
+    assert!(ran.out.ends_with("\nA plan can bring its row 0 back: --want 0.\n"), "{}", ran.out);
+    let ran = folder.fails("plan thin 1 --want 1 -o plan", 1);
+    assert_eq!(ran.err, "navorzim: disk 1 row 1 can't be rebuilt by any plan (thin)\n");
+    assert!(
+        ran.out.starts_with("Disk 1 is lost, and no plan can bring its row 1 back.\nThe pattern is 8,"),
+        "{}",
+        ran.out
+    );
+    assert!(!ran.out.contains("--want"), "{}", ran.out);
+    let ran = folder.fails("plan thin 1 --want 0,1 -o plan", 1);
+    assert_eq!(ran.err, "navorzim: disk 1 rows 0 1 can't all be rebuilt by any plan (thin)\n");
+    assert!(ran.out.contains("no plan can bring all of its rows 0 1 back."), "{}", ran.out);
+    assert!(ran.out.contains("not on disk 1 row 1.\nA plan can bring its row 0 back: --want 0."), "{}", ran.out);
+    let said = folder.done("plan thin 1 --want 0 -o plan");
+    assert_eq!(said, "wrote plan: 20 bytes, 3 steps, reads 3 symbols, brings back disk 1 row 0\n");
+    folder.put("stripes", &[1, 2, 0xAA, 0xBB, 5, 6, 1 ^ 3 ^ 5, 2 ^ 6]);
+    folder.done("rebuild thin 1 plan --symbol 1 stripes");
+    assert_eq!(folder.get("stripes"), [1, 2, 3, 0xBB, 5, 6, 1 ^ 3 ^ 5, 2 ^ 6]);
 }
 
 #[test]
@@ -304,7 +434,8 @@ fn worked_plans_get_their_answers() {
         (vec![6, 1, 4, 2, 4, 0, 3, 0, 0], 20, 0),
         (p2_with(2, 5), 15, 0),
         (p2_with(5, 1), 16, 0),
-        (p2_with(1, 2), 14, 0),
+        (p2_with(1, 3), 14, 0),
+        (p2_with(1, 2), 23, 0),
         (p2_with(0, 5), 13, 0),
         (p2_with(8, 5), 13, 0),
         (p2_with(7, 5), 11, 0),
@@ -440,6 +571,42 @@ A cell: the symbol's number and what it is; d3 is data symbol 3.
 }
 
 #[test]
+fn wanted_and_unwanted_symbols_are_drawn_apart() {
+    let folder = Folder::square();
+    folder.put("one", &row_1_of_the_square(2));
+    let plan = folder.done("show code --disk 0 --plan one");
+    assert!(
+        plan.contains("Disk 0 is lost. The plan for its row 1, checked: 2 steps, reads 2 of 6 surviving"),
+        "{plan}"
+    );
+    assert!(plan.contains("│- 0 d0    │● 2 d2    │· 4 d0+d2 │· 6 d0+d3 │"), "{plan}");
+    assert!(plan.contains("│× 1 d1    │· 3 d3    │· 5 d1+d3 │● 7 d1+d2 │"), "{plan}");
+    assert!(plan.contains("  × lost, wanted: 1\n  - lost, not wanted: 1\n  ● survives, read: 2\n"), "{plan}");
+    assert!(plan.contains("0: 1 ← 2    1: 1 += 7"), "{plan}");
+    let planned = folder.done("show code --disk 3 --want s7,0");
+    assert!(planned.contains("The plan for its rows 0 1, checked"), "{planned}");
+    assert!(planned.contains("× lost, wanted: 2") && !planned.contains("not wanted"), "{planned}");
+
+    // Where there is no plan, the unwanted symbols are left out of the account.
+    folder.put("thin", &thin_sheet());
+    let ran = folder.fails("show thin --disk 1 --want 1", 1);
+    assert!(ran.out.contains("│- 2 d2"), "{}", ran.out);
+    assert!(ran.out.contains("│≠ 3 d3"), "{}", ran.out);
+    assert!(ran.out.contains("  ≠ lost, differs: 1\n  - lost, not wanted: 1\n"), "{}", ran.out);
+
+    for (line, status) in [
+        ("show code --disk 0 --plan one --svg out", 0),
+        ("show code --disk 0 --want 1 --svg out", 0),
+        ("show thin --disk 1 --want 1 --svg out", 1),
+    ] {
+        assert_eq!(folder.run(line).status, status, "{line}");
+        let picture = String::from_utf8(folder.get("out")).expect("text");
+        assert!(picture.contains("lost, not wanted (1)"), "{line}: {picture}");
+        balanced(&picture);
+    }
+}
+
+#[test]
 fn drawings_keep_the_width() {
     let folder = Folder::new();
     for family in ["single-parity 63 1", "single-parity 1 32", "liberation 7 7"] {
@@ -502,7 +669,7 @@ fn balanced(picture: &str) {
 /// What the model says about a plan, as the tool's status and the head of its message.
 fn expected(answer: Result<u64, model::No>) -> (i32, String) {
     match answer {
-        Ok(reads) => (0, format!("accepted, reads {reads} symbols\n")),
+        Ok(reads) => (0, format!("accepted, reads {reads} symbols")),
         Err((number, place)) => (1, format!("navorzim: refused {number} at {place}: ")),
     }
 }
@@ -528,23 +695,34 @@ fn damaged_sheets_are_judged_as_the_rules_say() {
     for cut in (0..code.len()).step_by(3) {
         judged_like_the_model(&folder, &code[..cut], &P2);
     }
-    for cut in 0..P2.len() {
-        judged_like_the_model(&folder, &code, &P2[..cut]);
+    let listed = row_1_of_the_square(2);
+    for plan in [&P2[..], &listed] {
+        (0..=plan.len()).for_each(|cut| judged_like_the_model(&folder, &code, &plan[..cut]));
     }
     let mut random = Random::new(11);
-    for _ in 0..150 {
+    for round in 0..250 {
         let damaged_code = match random.one_in(2) {
             true => random::damaged(&mut random, &code),
             false => code.clone(),
         };
-        let damaged_plan = random::damaged(&mut random, &P2);
+        let damaged_plan = random::damaged(&mut random, if round % 2 == 0 { &P2 } else { &listed });
         judged_like_the_model(&folder, &damaged_code, &damaged_plan);
         folder.put("stripes", &P1);
     }
-    for length in [1, 100, 518, 519, 3081, 3082, 3_000_000] {
-        let noise = random.bytes(length);
+    for length in [1, 100, 518, 519, 3081, 3082, 3114, 3115, 3_000_000] {
+        let mut noise = random.bytes(length);
         judged_like_the_model(&folder, &noise, &P2);
         judged_like_the_model(&folder, &code, &noise);
+        // With a good head, and at times a good list.
+        for listed in [P2[..7].to_vec(), listed[..8].to_vec(), listed[..9].to_vec()] {
+            let good = listed.len().min(noise.len());
+            noise[..good].copy_from_slice(&listed[..good]);
+            judged_like_the_model(&folder, &code, &noise);
+            if noise.len() > 12 {
+                noise[9..11].copy_from_slice(&[2, 0]);
+                judged_like_the_model(&folder, &code, &noise);
+            }
+        }
     }
 }
 
@@ -622,7 +800,51 @@ fn one_byte_above_the_longest_sheet_is_too_long() {
     plan.push(0);
     folder.put("plan", &plan);
     let sentence = folder.refused("check code 0 plan", 12, 0);
-    assert!(sentence.contains("more than 3081 bytes"), "{sentence}");
+    assert!(sentence.contains("it has 3082 bytes"), "{sentence}");
+}
+
+/// The square code's plan for row 1 of disk 0, with as many clears before it as make so many steps.
+fn row_1_of_the_square(steps: usize) -> Vec<u8> {
+    let mut plan = vec![6, 2, 4, 2, 4, 0, 2, 1, 1];
+    plan.extend((steps as u16).to_le_bytes());
+    plan.extend([0, 1, 0].repeat(steps - 2));
+    plan.extend([1, 1, 2, 2, 1, 7]);
+    plan
+}
+
+#[test]
+fn plans_with_a_list_are_not_cut() {
+    let folder = Folder::square();
+    // Longer than any sheet of edition 1.
+    let mut plan = row_1_of_the_square(1024);
+    assert_eq!(plan.len(), 3083);
+    folder.put("plan", &plan);
+    assert_eq!(folder.done("check code 0 plan"), "accepted, reads 2 symbols, brings back disk 0 row 1\n");
+    assert!(folder.done("show code --disk 0 --plan plan").contains("1023: 1 += 7"));
+    assert_eq!(folder.done("rebuild code 0 plan --symbol 1 stripes"), "rebuilt disk 0 row 1 in 1 stripe: stripes\n");
+    for (more, said) in
+        [(1, "it has 3084 bytes"), (30, "it has 3114 bytes"), (1, "it has more than 3114 bytes"), (9000, "more than")]
+    {
+        plan.extend(vec![0; more]);
+        folder.put("plan", &plan);
+        let sentence = folder.refused("check code 0 plan", 12, 0);
+        assert!(sentence.contains(said), "{sentence}");
+    }
+    // However long the file is, what goes before its length is said.
+    plan[7] = 255;
+    judged_like_the_model(&folder, &square_sheet(), &plan);
+    plan[8..10].copy_from_slice(&[1, 1]);
+    plan[7] = 2;
+    judged_like_the_model(&folder, &square_sheet(), &plan);
+
+    // The longest sheet: 32 wanted symbols, each the sum of 32 survivors.
+    let rows: Vec<u64> = (0..64).map(|s| if s < 32 { u64::from(u32::MAX) } else { 1 << (s - 32) }).collect();
+    folder.put("code", &sheet(2, 32, 32, &rows));
+    let said = folder.done("plan code 0 --want 0-31 -o plan");
+    assert!(said.starts_with("wrote plan: 3114 bytes, 1024 steps, reads 32 symbols"), "{said}");
+    assert!(folder.done("check code 0 plan").starts_with("accepted, reads 32 symbols"));
+    folder.put("plan", &[&folder.get("plan")[..], &[0]].concat());
+    folder.refused("check code 0 plan", 12, 0);
 }
 
 #[test]
@@ -672,12 +894,43 @@ fn misuse_is_explained() {
         ("encode code --symbol one data -o out", "--symbol must be a decimal number"),
         ("family hamming 7 4 -o out", "no family 'hamming'"),
         ("show code --plan plan", "--plan needs --disk"),
+        ("show code --want 0", "--want needs --disk"),
+        ("show code --disk 0 --plan plan --want 0", "--want and --plan exclude each other"),
+        ("check code 0 plan --want 0", "check has no option --want"),
+        ("rebuild code 0 plan --symbol 1 stripes --want 0", "rebuild has no option --want"),
         ("show code --disk=x", "not 'x'"),
         ("demo now", "'now' is one word too many"),
     ] {
         let said = folder.misused(line);
         assert!(said.contains(piece), "{line}: {said}");
         assert!(said.contains("says how it is used"), "{line}: {said}");
+    }
+}
+
+#[test]
+fn lists_that_cannot_be_understood_are_misuse() {
+    let folder = Folder::square();
+    for (line, piece) in [
+        ("plan code 0 --want -o out", "-o' is neither a row"),
+        ("plan code 0 --want 0 --want 1 -o out", "--want is given twice"),
+        ("plan code 0 -o out --want", "--want needs a value"),
+        ("plan code 0 --want= -o out", "--want: '' is neither a row, like 2 or 0-2, nor a symbol, like s5 or s5-s7"),
+        ("plan code 0 --want , -o out", "'' is neither"),
+        ("plan code 0 --want 0,,1 -o out", "'' is neither"),
+        ("plan code 0 --want 0;1 -o out", "'0;1' is neither"),
+        ("plan code 0 --want=-1 -o out", "'-1' is neither"),
+        ("plan code 0 --want 1- -o out", "'1-' is neither"),
+        ("plan code 0 --want +1 -o out", "'+1' is neither"),
+        ("plan code 0 --want 0-1-2 -o out", "'0-1-2' is neither"),
+        ("plan code 0 --want s -o out", "'s' is neither"),
+        ("plan code 0 --want s0-1 -o out", "'s0-1' is neither"),
+        ("plan code 0 --want 99999999999999999999 -o out", "'99999999999999999999' is neither"),
+        ("plan code 0 --want 1-0 -o out", "'1-0' falls"),
+        ("plan code 0 --want 0-18446744073709551615 -o out", "is more than any disk has"),
+    ] {
+        let said = folder.misused(line);
+        assert!(said.contains(piece), "{line}: {said}");
+        assert!(said.contains("`navorzim plan --help` says how it is used"), "{line}: {said}");
     }
 }
 
@@ -721,6 +974,9 @@ fn names_of_any_bytes_are_taken() {
     let option = OsStr::from_bytes(b"--\xff");
     assert_eq!(folder.run_words([OsStr::new("check"), option]).status, 2);
     assert_eq!(folder.run_words([odd]).status, 2);
+    let ran = folder.run_words([OsStr::new("plan"), "code".as_ref(), "0".as_ref(), "--want".as_ref(), odd]);
+    assert_eq!(ran.status, 2, "{ran:?}");
+    assert!(ran.err.contains("is neither a row"), "{}", ran.err);
 }
 
 #[test]
@@ -734,8 +990,10 @@ fn help_is_there_and_its_examples_run() {
         let help = folder.done(&format!("{command} --help"));
         assert_eq!(folder.done(&format!("help {command}")), help);
         assert!(help.starts_with(&format!("usage: navorzim {command} ")));
-        let example = help.split("example: navorzim ").nth(1).expect("an example");
-        folder.done(example.trim_end());
+        assert!(help.contains("example: navorzim "), "{command}");
+        for example in help.split("example: navorzim ").skip(1) {
+            folder.done(example.trim_end());
+        }
     }
     assert!(folder.done("--version").starts_with("navorzim "));
     assert!(folder.has("plan.svg") && folder.has("disk0.bin") && folder.has("demo-files"));
@@ -747,10 +1005,14 @@ fn the_demonstration_comes_out_right() {
     let said = folder.done("demo");
     for piece in [
         "compared: all 4480 bytes are as they were",
+        "wrote row2.sheet: 26 bytes, 5 steps, reads 5 symbols, brings back disk 0 row 2",
+        "compared: row 2 is as it was, and no other byte has changed",
         "refused 21 at 0: row 0 of the failed disk ends wrong under this code (plan.sheet)",
         "refused 15 at 0: ",
         "compared: not a byte of stripes.bin has changed",
         "The pattern is 8, bits 001000",
+        "A plan can bring its row 0 back: --want 0.",
+        "brings back disk 1 row 0",
         "Everything came out right.",
     ] {
         assert!(said.contains(piece), "{piece}: {said}");

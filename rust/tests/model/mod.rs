@@ -1,6 +1,8 @@
-//! Document 01 once more, in plain Rust and by other means than the proved library: rows are lists of truth values, a lost place is a
-//! value that may be missing, encoding scatters each data symbol, and whether a disk can be rebuilt is a question of ranks.
+//! The rules once more, in plain Rust and by other means than the proved library: rows are lists of truth values, a lost place is a
+//! value that may be missing, a good list is found in the strip from front to back, encoding scatters each data symbol, and whether
+//! symbols can be rebuilt is a question of ranks.
 #![allow(dead_code)]
+use std::cmp::Ordering;
 use std::collections::HashSet;
 
 pub mod random;
@@ -147,48 +149,79 @@ pub fn encode(sheet: &[u8], size: u64, data: &[u8], stripe_length: usize) -> Res
     Ok(scatter(&code, size, data))
 }
 
-/// A plan, judged. Lost places are missing values until a step fills them.
-pub fn check(sheet: &[u8], disk: u64, plan: &[u8]) -> Result<u64, No> {
-    let code = read_code(sheet)?;
-    if disk >= code.disks as u64 {
-        return Err((7, 0));
+/// A plan sheet that is whole: what it wants, how many symbols it says it reads, and its steps.
+pub struct Plan {
+    pub wanted: Vec<usize>,
+    pub reads: usize,
+    pub steps: Vec<[u8; 3]>,
+}
+
+/// A list of wanted symbols, 23. A good one is found in the strip from front to back: each entry somewhere after the one before it.
+pub fn wanted_list(code: &Code, disk: usize, list: &[u8]) -> Result<Vec<usize>, No> {
+    let mut strip = code.strip(disk);
+    if list.is_empty() || list.len() > strip.len() {
+        return Err((23, 0));
     }
-    let [count, edition, n, r, k, failed, reads, low, high, rest @ ..] = plan else { return Err((11, 0)) };
-    let steps = u16::from_le_bytes([*low, *high]) as usize;
-    if *count != 6 {
-        return Err((13, 0));
+    match list.iter().position(|&entry| !strip.any(|symbol| symbol == entry as usize)) {
+        Some(position) => Err((23, position as u64)),
+        None => Ok(list.iter().map(|&entry| entry as usize).collect()),
     }
-    if *edition != 1 {
-        return Err((14, 0));
+}
+
+/// The head's 11, 13, 14, 15, 16; then, from what follows the first seven bytes, the list and the steps.
+pub fn read_plan(code: &Code, disk: usize, plan: &[u8]) -> Result<Plan, No> {
+    let [count, edition, n, r, k, failed, reads, rest @ ..] = plan else { return Err((11, 0)) };
+    match () {
+        _ if rest.len() < 2 => return Err((11, 0)),
+        _ if *count != 6 => return Err((13, 0)),
+        _ if !matches!(edition, 1 | 2) => return Err((14, 0)),
+        _ if [*n, *r, *k].map(usize::from) != [code.disks, code.height, code.data] => return Err((15, 0)),
+        _ if *failed as usize != disk => return Err((16, 0)),
+        _ => {}
     }
-    if (*n as usize, *r as usize, *k as usize) != (code.disks, code.height, code.data) {
-        return Err((15, 0));
-    }
-    if *failed as u64 != disk {
-        return Err((16, 0));
-    }
+    let (list, rest) = match (edition, rest) {
+        (1, _) => (None, rest),
+        (_, [wanted, rest @ ..]) if rest.len() >= *wanted as usize + 2 => {
+            let (list, rest) = rest.split_at(*wanted as usize);
+            (Some(list), rest)
+        }
+        _ => return Err((11, 0)),
+    };
+    let steps = u16::from_le_bytes([rest[0], rest[1]]) as usize;
     if steps > 1024 {
         return Err((13, 0));
     }
+    let wanted = match list {
+        None => code.strip(disk).collect(),
+        Some(list) => wanted_list(code, disk, list)?,
+    };
+    let rest = &rest[2..];
     match rest.len().cmp(&(3 * steps)) {
-        std::cmp::Ordering::Less => return Err((11, 0)),
-        std::cmp::Ordering::Greater => return Err((12, 0)),
-        std::cmp::Ordering::Equal => {}
+        Ordering::Less => Err((11, 0)),
+        Ordering::Greater => Err((12, 0)),
+        Ordering::Equal => {
+            let steps = rest.chunks(3).map(|step| [step[0], step[1], step[2]]).collect();
+            Ok(Plan { wanted, reads: *reads as usize, steps })
+        }
     }
-    let lost = code.strip(disk as usize);
-    let mut held: Vec<Option<Row>> =
-        code.rows.iter().enumerate().map(|(s, row)| if lost.contains(&s) { None } else { Some(row.clone()) }).collect();
+}
+
+/// What the steps make of the rows, and the survivors that they read: 17, 18, 19. Lost places are missing until a step fills them.
+fn run(code: &Code, disk: usize, plan: &Plan) -> Result<(Vec<Option<Row>>, HashSet<usize>), No> {
+    let lost = code.strip(disk);
+    let row = |s: usize| (!lost.contains(&s)).then(|| code.rows[s].clone());
+    let mut held: Vec<Option<Row>> = (0..code.symbols()).map(row).collect();
     let mut read = HashSet::new();
-    for (number, step) in rest.chunks(3).enumerate() {
+    for (number, &[kind, target, source]) in plan.steps.iter().enumerate() {
         let place = number as u64;
-        let (target, source) = (step[1] as usize, step[2] as usize);
-        if step[0] > 2 || target >= code.symbols() || source >= code.symbols() || (step[0] == 0 && source != 0) {
+        let (target, source) = (target as usize, source as usize);
+        if kind > 2 || target >= code.symbols() || source >= code.symbols() || (kind == 0 && source != 0) {
             return Err((17, place));
         }
-        if !lost.contains(&target) {
+        if !plan.wanted.contains(&target) {
             return Err((18, place));
         }
-        let result = match step[0] {
+        let result = match kind {
             0 => Some(vec![false; code.data]),
             1 => held[source].clone(),
             _ => match (&held[target], &held[source]) {
@@ -199,22 +232,36 @@ pub fn check(sheet: &[u8], disk: u64, plan: &[u8]) -> Result<u64, No> {
         if result.is_none() {
             return Err((19, place));
         }
-        if step[0] != 0 && !lost.contains(&source) {
+        if kind != 0 && !lost.contains(&source) {
             read.insert(source);
         }
         held[target] = result;
     }
-    for s in lost.clone() {
-        if held[s].is_none() {
-            return Err((20, (s - lost.start) as u64));
-        }
+    Ok((held, read))
+}
+
+/// A code and a disk of it: the code sheet's refusals, 7.
+pub fn read_code_with(sheet: &[u8], disk: u64) -> Result<(Code, usize), No> {
+    let code = read_code(sheet)?;
+    if disk >= code.disks as u64 {
+        return Err((7, 0));
     }
-    for s in lost.clone() {
-        if held[s].as_ref() != Some(&code.rows[s]) {
-            return Err((21, (s - lost.start) as u64));
-        }
+    Ok((code, disk as usize))
+}
+
+/// A plan, judged: its sheet, its steps, then 20 and 21 over the wanted symbols, 22.
+pub fn check(sheet: &[u8], disk: u64, plan: &[u8]) -> Result<u64, No> {
+    let (code, disk) = read_code_with(sheet, disk)?;
+    let plan = read_plan(&code, disk, plan)?;
+    let (held, read) = run(&code, disk, &plan)?;
+    let row = |s: usize| (s % code.height) as u64;
+    if let Some(&s) = plan.wanted.iter().find(|&&s| held[s].is_none()) {
+        return Err((20, row(s)));
     }
-    if *reads as usize != read.len() {
+    if let Some(&s) = plan.wanted.iter().find(|&&s| held[s].as_ref() != Some(&code.rows[s])) {
+        return Err((21, row(s)));
+    }
+    if plan.reads != read.len() {
         return Err((22, read.len() as u64));
     }
     Ok(read.len() as u64)
@@ -224,15 +271,16 @@ pub fn check(sheet: &[u8], disk: u64, plan: &[u8]) -> Result<u64, No> {
 pub fn rebuild(sheet: &[u8], disk: u64, plan: &[u8], size: u64, stripe: &[u8]) -> Result<Vec<u8>, No> {
     check(sheet, disk, plan)?;
     let code = read_code(sheet)?;
+    let plan = read_plan(&code, disk as usize, plan)?;
     let size = symbol_length(size)?;
     if stripe.len() != code.symbols() * size {
         return Err((32, 0));
     }
     let mut symbols: Vec<Vec<u8>> = stripe.chunks(size).map(<[u8]>::to_vec).collect();
-    for step in plan[9..].chunks(3) {
-        let source = symbols[step[2] as usize].clone();
-        let target = &mut symbols[step[1] as usize];
-        *target = match step[0] {
+    for [kind, target, source] in plan.steps {
+        let source = symbols[source as usize].clone();
+        let target = &mut symbols[target as usize];
+        *target = match kind {
             0 => vec![0; size],
             1 => source,
             _ => target.iter().zip(&source).map(|(a, b)| a ^ b).collect(),
@@ -262,49 +310,53 @@ pub fn rank(rows: &[Row]) -> usize {
     done
 }
 
-/// Whether a disk can be rebuilt: its rows add nothing to the rank of the others.
-pub fn can_be_rebuilt(code: &Code, disk: usize) -> bool {
+/// Whether symbols of a disk can be rebuilt: their rows add nothing to the rank of the survivors'.
+pub fn can_be_rebuilt(code: &Code, disk: usize, wanted: &[usize]) -> bool {
     let lost = code.strip(disk);
-    let others: Vec<Row> =
-        code.rows.iter().enumerate().filter(|(s, _)| !lost.contains(s)).map(|(_, row)| row.clone()).collect();
-    rank(&others) == rank(&code.rows)
+    let mut rows: Vec<Row> = (0..code.symbols()).filter(|s| !lost.contains(s)).map(|s| code.rows[s].clone()).collect();
+    let surviving = rank(&rows);
+    rows.extend(wanted.iter().map(|&s| code.rows[s].clone()));
+    rank(&rows) == surviving
 }
 
-/// What planning must refuse.
-pub fn plan_refusal(sheet: &[u8], disk: u64, buffer_length: usize) -> Result<Code, No> {
-    let code = read_code(sheet)?;
-    if disk >= code.disks as u64 {
-        return Err((7, 0));
-    }
-    if buffer_length < 3081 {
+/// What planning must refuse; otherwise the code, the disk and what is wanted of it. Without a list that is all of it.
+pub fn plan_refusal(
+    sheet: &[u8],
+    disk: u64,
+    list: Option<&[u8]>,
+    buffer_length: usize,
+) -> Result<(Code, usize, Vec<usize>), No> {
+    let (code, disk) = read_code_with(sheet, disk)?;
+    let (wanted, room) = match list {
+        None => (code.strip(disk).collect(), 3081),
+        Some(list) => (wanted_list(&code, disk, list)?, 3114),
+    };
+    if buffer_length < room {
         return Err((34, 0));
     }
-    Ok(code)
+    Ok((code, disk, wanted))
 }
 
-/// Whether a pattern is good: K bits, its stripe zero on every survivor and not zero on the lost disk.
-pub fn good_pattern(code: &Code, disk: usize, pattern: u64, size: usize) -> bool {
+/// Whether a pattern is good: K bits, its stripe zero on every survivor and not zero in a wanted symbol.
+pub fn good_pattern(code: &Code, disk: usize, wanted: &[usize], pattern: u64, size: usize) -> bool {
     if code.data < 64 && pattern >> code.data != 0 {
         return false;
     }
     let data: Vec<u8> = (0..code.data).flat_map(|t| vec![(pattern >> t & 1) as u8; size]).collect();
     let stripe = scatter(code, size, &data);
-    let strip = code.strip(disk).start * size..code.strip(disk).end * size;
-    stripe.iter().enumerate().all(|(i, &byte)| strip.contains(&i) || byte == 0)
-        && stripe[strip].iter().any(|&byte| byte != 0)
+    let zero = |s: usize| stripe[s * size..(s + 1) * size].iter().all(|&byte| byte == 0);
+    let lost = code.strip(disk);
+    (0..code.symbols()).all(|s| lost.contains(&s) || zero(s)) && wanted.iter().any(|&s| !zero(s))
 }
 
 /// One strip: code sheet, 7, 31, 32. The answer is its first byte and its end.
 pub fn strip(sheet: &[u8], disk: u64, size: u64, stripe_length: usize) -> Result<(usize, usize), No> {
-    let code = read_code(sheet)?;
-    if disk >= code.disks as u64 {
-        return Err((7, 0));
-    }
+    let (code, disk) = read_code_with(sheet, disk)?;
     let size = symbol_length(size)?;
     if stripe_length != code.symbols() * size {
         return Err((32, 0));
     }
-    let strip = code.strip(disk as usize);
+    let strip = code.strip(disk);
     Ok((strip.start * size, strip.end * size))
 }
 

@@ -114,6 +114,48 @@ pub fn damaged(random: &mut Random, sheet: &[u8]) -> Vec<u8> {
     bytes
 }
 
+/// Some symbols of a disk, rising: one, all or any of them.
+pub fn list(random: &mut Random, code: &Code, disk: usize) -> Vec<u8> {
+    let strip: Vec<u8> = code.strip(disk).map(|s| s as u8).collect();
+    let one = random.pick(&strip);
+    let kind = random.below(4);
+    let chosen = |s: &u8| match kind {
+        0 => *s == one,
+        1 => true,
+        _ => *s == one || random.one_in(2),
+    };
+    strip.into_iter().filter(chosen).collect()
+}
+
+/// A list with something wrong with it, most often: an entry changed, out of order, given twice or left out, or too many of them.
+pub fn damaged_list(random: &mut Random, code: &Code, list: &[u8]) -> Vec<u8> {
+    let mut list = list.to_vec();
+    let at = random.below(list.len());
+    match random.below(8) {
+        0 => list.clear(),
+        1 => list[at] = random.pick(&[0, code.symbols() as u8 - 1, code.symbols() as u8, 64, 128, 254, 255]),
+        2 => {
+            list[at] =
+                list[at].wrapping_add(random.pick(&[1, 255, code.height as u8, 0u8.wrapping_sub(code.height as u8)]))
+        }
+        3 => list[at] = random.below(code.symbols()) as u8,
+        4 => list.insert(at, list[at]),
+        5 => {
+            let other = random.below(list.len());
+            list.swap(at, other);
+        }
+        6 => {
+            let length = code.height + random.pick(&[0, 1, 2]);
+            list = (0..length).map(|i| list[0].wrapping_add(i as u8)).collect();
+        }
+        _ => {
+            let length = random.pick(&[33, 64, 65, 255, 256, 257, 300, 512, 70_000]);
+            list = random.bytes(length);
+        }
+    }
+    list
+}
+
 /// A number that a caller might give for a disk or a symbol of so many.
 pub fn index(random: &mut Random, count: usize) -> u64 {
     match random.below(12) {

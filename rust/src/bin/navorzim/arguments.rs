@@ -1,5 +1,6 @@
 //! The command line: named options, and the words that stand in order.
 use crate::failure::Failure;
+use crate::wanted::Request;
 use std::collections::VecDeque;
 use std::ffi::{OsStr, OsString};
 use std::os::unix::ffi::OsStrExt;
@@ -97,6 +98,15 @@ impl Arguments {
     pub fn number_option(&mut self, name: &str) -> Result<Option<u64>, Failure> {
         let value = self.option(name);
         value.map(|word| self.as_number(name, &word)).transpose()
+    }
+
+    /// The symbols that `--want` asks for, if it is given.
+    pub fn wanted(&mut self) -> Result<Option<Request>, Failure> {
+        let Some(word) = self.option("--want") else { return Ok(None) };
+        match Request::read(&word) {
+            Ok(request) => Ok(Some(request)),
+            Err(why) => Err(self.misuse(format!("--want: {why}"))),
+        }
     }
 
     /// Where the output goes; asked for by name, so that no file is written that nobody named.

@@ -2,10 +2,11 @@
 use crate::arguments::{shown, Arguments};
 use crate::failure::{Failure, Refused};
 use crate::files;
-use crate::picture::{pattern_notes, Picture, Story};
+use crate::picture::{Picture, Story, Stuck};
 use crate::sheets::{counted, Code, Plan};
 use crate::stream::{self, Pieces};
 use crate::text::Style;
+use crate::wanted::{self, Request, Wanted};
 use crate::{demo, help, svg, text};
 use navorzim::{Family, Planning, Refusal};
 use std::path::Path;
@@ -23,11 +24,11 @@ pub const COMMANDS: &[Command] = &[
     Command { name: "demo", options: &["--keep"], help: help::DEMO, run: demo::run },
     Command { name: "family", options: &["-o"], help: help::FAMILY, run: family },
     Command { name: "encode", options: &["-o", "--symbol"], help: help::ENCODE, run: encode },
-    Command { name: "plan", options: &["-o"], help: help::PLAN, run: plan },
+    Command { name: "plan", options: &["-o", "--want"], help: help::PLAN, run: plan },
     Command { name: "check", options: &[], help: help::CHECK, run: check },
     Command { name: "rebuild", options: &["-o", "--symbol"], help: help::REBUILD, run: rebuild },
     Command { name: "strip", options: &["-o", "--symbol"], help: help::STRIP, run: strip },
-    Command { name: "show", options: &["--disk", "--plan", "--svg"], help: help::SHOW, run: show },
+    Command { name: "show", options: &["--disk", "--plan", "--svg", "--want"], help: help::SHOW, run: show },
 ];
 
 /// The command with a name.
@@ -101,28 +102,26 @@ fn encode(arguments: &mut Arguments) -> Result<String, Failure> {
 
 fn plan(arguments: &mut Arguments) -> Result<String, Failure> {
     let (code, disk) = (arguments.file("CODE")?, arguments.number("DISK")?);
-    let output = arguments.output()?;
+    let (request, output) = (arguments.wanted()?, arguments.output()?);
     arguments.finish()?;
     let code = Code::open(&code)?;
-    let (plan, reads) = match planned(&code, disk)? {
+    let (planning, wanted) = planned(&code, disk, request.as_ref())?;
+    let (plan, reads) = match planning {
         Planning::Plan { plan, reads } => (plan, reads),
         Planning::Pattern(bits) => {
-            let notes = pattern_notes(&code, disk as usize, bits);
-            return Err(Failure::NoPlan {
-                text: notes.iter().map(|note| format!("{note}\n")).collect(),
-                disk,
-                code: code.file,
-            });
+            let stuck = stuck(&code, disk, wanted, bits);
+            let text = stuck.notes(&code).iter().map(|note| format!("{note}\n")).collect();
+            return Err(no_plan(text, code, &stuck));
         }
     };
     files::replace(&output, &[&code.file], &plan)?;
     let length = plan.len();
-    let steps = Plan { file: output, sheet: plan };
+    let plan = Plan { file: output, sheet: plan };
     Ok(format!(
-        "wrote {}: {length} bytes, {}, reads {} symbols\n",
-        steps.file.display(),
-        counted(steps.steps().len(), "step"),
-        reads
+        "wrote {}: {length} bytes, {}, reads {reads} symbols{}\n",
+        plan.file.display(),
+        counted(plan.steps().len(), "step"),
+        brings_back(&code, disk, &plan)
     ))
 }
 
@@ -130,9 +129,17 @@ fn check(arguments: &mut Arguments) -> Result<String, Failure> {
     let (code, disk) = (arguments.file("CODE")?, arguments.number("DISK")?);
     let plan = arguments.file("PLAN")?;
     arguments.finish()?;
-    let code = Code::open(&code)?;
-    let reads = checked(&code, disk, &Plan::open(&plan)?)?;
-    Ok(format!("accepted, reads {reads} symbols\n"))
+    let (code, plan) = (Code::open(&code)?, Plan::open(&plan)?);
+    let reads = checked(&code, disk, &plan)?;
+    Ok(format!("accepted, reads {reads} symbols{}\n", brings_back(&code, disk, &plan)))
+}
+
+/// Of a plan with a list: what it brings back.
+fn brings_back(code: &Code, disk: u64, plan: &Plan) -> String {
+    match plan.wanted() {
+        Wanted::Disk => String::new(),
+        wanted => format!(", brings back {}", wanted.words(code, disk)),
+    }
 }
 
 fn rebuild(arguments: &mut Arguments) -> Result<String, Failure> {
@@ -158,7 +165,8 @@ fn rebuild(arguments: &mut Arguments) -> Result<String, Failure> {
             output.write(stripe)
         },
     )?;
-    Ok(format!("rebuilt disk {disk} in {}: {}\n", counted(count, "stripe"), output.display()))
+    let wanted = plan.wanted().words(&code, disk);
+    Ok(format!("rebuilt {wanted} in {}: {}\n", counted(count, "stripe"), output.display()))
 }
 
 fn strip(arguments: &mut Arguments) -> Result<String, Failure> {
@@ -186,16 +194,22 @@ fn show(arguments: &mut Arguments) -> Result<String, Failure> {
     let code = arguments.file("CODE")?;
     let disk = arguments.number_option("--disk")?;
     let plan = arguments.file_option("--plan")?;
+    let request = arguments.wanted()?;
     let drawing = arguments.file_option("--svg")?;
     arguments.finish()?;
-    if plan.is_some() && disk.is_none() {
-        let what = "--plan needs --disk: which disk is lost isn't left to the plan";
-        return Err(arguments.misuse(what.to_string()));
+    let misuse = match (disk, &plan, &request) {
+        (None, Some(_), _) => "--plan needs --disk: which disk is lost isn't left to the plan",
+        (None, _, Some(_)) => "--want needs --disk: the disk that is lost",
+        (_, Some(_), Some(_)) => "--want and --plan exclude each other: a plan says itself what it wants",
+        _ => "",
+    };
+    if !misuse.is_empty() {
+        return Err(arguments.misuse(misuse.to_string()));
     }
     let code = Code::open(&code)?;
     let story = match (disk, &plan) {
         (None, _) => Story::Code,
-        (Some(disk), None) => planned_story(&code, disk)?,
+        (Some(disk), None) => planned_story(&code, disk, request.as_ref())?,
         (Some(disk), Some(plan)) => checked_story(&code, disk, &Plan::open(plan)?)?,
     };
     let picture = Picture::new(&code, &story);
@@ -205,15 +219,43 @@ fn show(arguments: &mut Arguments) -> Result<String, Failure> {
     }
     let text = text::draw(&picture, Style::of_stdout());
     match story {
-        Story::Pattern { disk, .. } => Err(Failure::NoPlan { text, disk: disk as u64, code: code.file }),
-        _ => Ok(text),
+        Story::Stuck(stuck) => Err(no_plan(text, code, &stuck)),
+        Story::Code | Story::Plan { .. } => Ok(text),
     }
 }
 
-/// What the planner says about a disk.
-fn planned(code: &Code, disk: u64) -> Result<Planning, Failure> {
-    let planning = navorzim::make_plan(&code.sheet, disk);
-    planning.map_err(|refusal| code.explain(refusal, disk, None, 0))
+/// What the planner says about a disk, or about the symbols that are asked for.
+fn planned(code: &Code, disk: u64, request: Option<&Request>) -> Result<(Planning, Wanted), Failure> {
+    let explain = |refusal| code.explain(refusal, disk, None, 0);
+    let Some(request) = request else {
+        return Ok((navorzim::make_plan(&code.sheet, disk).map_err(explain)?, Wanted::Disk));
+    };
+    let symbols = request.symbols(code, disk);
+    let planning = navorzim::plan_wanted(&code.sheet, disk, &wanted::as_bytes(&symbols));
+    let planning = planning.map_err(|refusal| match refusal {
+        Refusal::BadWantedList { position } => {
+            Failure::refused(refusal, wanted::fault(code, disk, &symbols, position), &code.file)
+        }
+        _ => explain(refusal),
+    })?;
+    Ok((planning, Wanted::Symbols(symbols)))
+}
+
+/// A pattern, with those of the wanted symbols that have a plan by themselves.
+fn stuck(code: &Code, disk: u64, wanted: Wanted, bits: u64) -> Stuck {
+    let has_plan = |&symbol: &u64| {
+        let planning = navorzim::plan_wanted(&code.sheet, disk, &wanted::as_bytes(&[symbol]));
+        matches!(planning, Ok(Planning::Plan { .. }))
+    };
+    let strip = (0..code.symbols() as u64).filter(|&s| code.disk_of(s as usize) as u64 == disk);
+    let within_reach = strip.filter(|&s| wanted.has(s as usize)).filter(has_plan).collect();
+    Stuck { disk: disk as usize, wanted, bits, within_reach }
+}
+
+/// How a command ends that met a pattern.
+fn no_plan(text: String, code: Code, stuck: &Stuck) -> Failure {
+    let what = stuck.wanted.cannot_be_rebuilt(&code, stuck.disk as u64);
+    Failure::NoPlan { text, what, code: code.file }
 }
 
 /// How many symbols a plan reads, if it is accepted.
@@ -223,10 +265,10 @@ fn checked(code: &Code, disk: u64, plan: &Plan) -> Result<u64, Failure> {
 }
 
 /// The planner's answer as a story; its plan is checked like any other.
-pub fn planned_story(code: &Code, disk: u64) -> Result<Story, Failure> {
-    match planned(code, disk)? {
-        Planning::Pattern(bits) => Ok(Story::Pattern { disk: disk as usize, bits }),
-        Planning::Plan { plan, .. } => {
+fn planned_story(code: &Code, disk: u64, request: Option<&Request>) -> Result<Story, Failure> {
+    match planned(code, disk, request)? {
+        (Planning::Pattern(bits), wanted) => Ok(Story::Stuck(stuck(code, disk, wanted, bits))),
+        (Planning::Plan { plan, .. }, _) => {
             let plan = Plan { file: code.file.clone(), sheet: plan };
             checked_story(code, disk, &plan)
         }
@@ -234,9 +276,9 @@ pub fn planned_story(code: &Code, disk: u64) -> Result<Story, Failure> {
 }
 
 /// An accepted plan as a story.
-pub fn checked_story(code: &Code, disk: u64, plan: &Plan) -> Result<Story, Failure> {
+fn checked_story(code: &Code, disk: u64, plan: &Plan) -> Result<Story, Failure> {
     let reads = checked(code, disk, plan)?;
-    Ok(Story::Plan { disk: disk as usize, reads, steps: plan.steps() })
+    Ok(Story::Plan { disk: disk as usize, wanted: plan.wanted(), reads, steps: plan.steps() })
 }
 
 /// Any refusal but the one that a call without bytes must end in.

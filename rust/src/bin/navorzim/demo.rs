@@ -1,5 +1,5 @@
-//! The demonstration: a disk lost and brought back, the day of the incident, and a disk that can't be brought back. It runs the
-//! tool's own commands over files, tests what comes of each, and fails if anything is other than it must be.
+//! The demonstration: a disk lost and brought back, one row for somebody who waits, the day of the incident, and a disk that can't be
+//! brought back. It runs the tool's own commands over files, tests what comes of each, and fails if anything is other than it must be.
 use crate::arguments::Arguments;
 use crate::commands;
 use crate::failure::Failure;
@@ -66,6 +66,7 @@ struct Demo {
 impl Demo {
     fn tell(&mut self) -> Result<(), Failure> {
         self.rebuild_a_disk()?;
+        self.rebuild_one_row()?;
         self.run_an_old_plan()?;
         self.meet_a_pattern()?;
         self.say("");
@@ -102,6 +103,24 @@ impl Demo {
         self.note(&format!("compared: all {all} bytes are as they were"));
         self.say("");
         self.draw("show code.sheet --disk 0 --plan plan.sheet --svg plan.svg")?;
+        Ok(())
+    }
+
+    fn rebuild_one_row(&mut self) -> Result<(), Failure> {
+        self.say("");
+        self.say("Somebody waits for one entry: row 2 of disk 0 is enough");
+        let whole = self.read("stripes.bin")?;
+        let ruined = ruin(&whole);
+        self.write("stripes.bin", &ruined)?;
+        self.command("plan code.sheet 0 --want 2 -o row2.sheet")?;
+        self.command("rebuild code.sheet 0 row2.sheet --symbol 64 stripes.bin")?;
+        let rebuilt = self.read("stripes.bin")?;
+        self.note(&format!("row 2 holds    {}", first_line(&each(&rebuilt, 2))));
+        for symbol in 0..SYMBOLS {
+            let expected = if symbol == 2 { each(&whole, symbol) } else { each(&ruined, symbol) };
+            self.must(each(&rebuilt, symbol) == expected, "row 2 isn't back, or another symbol has changed")?;
+        }
+        self.note("compared: row 2 is as it was, and no other byte has changed");
         Ok(())
     }
 
@@ -152,7 +171,10 @@ impl Demo {
         let missing = self.run("plan thin.sheet 1 -o none.sheet");
         let no_plan = matches!(missing, Err(Failure::NoPlan { .. }));
         let no_file = !self.folder.path.join("none.sheet").exists();
-        self.must(no_plan && no_file, "a plan was written where none can be")
+        self.must(no_plan && no_file, "a plan was written where none can be")?;
+        self.say("");
+        self.note("its row 0 has a plan all the same:");
+        self.command("plan thin.sheet 1 --want 0 -o row0.sheet")
     }
 
     fn say(&mut self, line: &str) {
@@ -253,6 +275,11 @@ fn ruin(stripes: &[u8]) -> Vec<u8> {
         stripe.iter_mut().take(ROWS * SYMBOL).for_each(|byte| *byte = b'#');
     }
     ruined
+}
+
+/// One symbol of each stripe.
+fn each(stripes: &[u8], symbol: usize) -> Vec<u8> {
+    stripes.chunks(SYMBOL).skip(symbol).step_by(SYMBOLS).flatten().copied().collect()
 }
 
 /// The first symbol as text, without the blanks at its end.

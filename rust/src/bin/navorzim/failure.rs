@@ -8,8 +8,8 @@ use std::path::{Path, PathBuf};
 pub enum Failure {
     /// The library, or the length of a file of many stripes, said no.
     Refused(Refused),
-    /// The planner answered a pattern: `text` is the answer, for standard output.
-    NoPlan { text: String, disk: u64, code: PathBuf },
+    /// The planner answered a pattern: `text` is the answer, for standard output, and `what` a sentence on what can't be rebuilt.
+    NoPlan { text: String, what: String, code: PathBuf },
     /// The command line can't be understood; `command` is the one whose help is of use.
     Misuse { what: String, command: &'static str },
     /// A file can't be read, written or used as asked.
@@ -60,10 +60,7 @@ impl fmt::Display for Failure {
     fn fmt(&self, f: &mut fmt::Formatter<'_>) -> fmt::Result {
         match self {
             Failure::Refused(refused) => write!(f, "{refused}"),
-            Failure::NoPlan { disk, code, .. } => {
-                let code = code.display();
-                write!(f, "disk {disk} can't be rebuilt by any plan ({code})")
-            }
+            Failure::NoPlan { what, code, .. } => write!(f, "{what} ({})", code.display()),
             Failure::Misuse { what, command: "" } => {
                 write!(f, "{what}\n`navorzim help` says how it is used")
             }

@@ -8,9 +8,9 @@ usage: navorzim COMMAND ..
   demo      loses a disk of a small array and brings it back, in front of you
   family    writes the code sheet of a known code
   encode    makes stripes of data
-  plan      plans how to rebuild a disk, or shows why it can't be done
+  plan      plans how to rebuild a disk, or some of its rows, or shows why it can't be done
   check     judges a plan for a code and a disk
-  rebuild   rebuilds a disk in a file of stripes, by a plan that is checked first
+  rebuild   rebuilds what a plan wants in a file of stripes; the plan is checked first
   strip     takes a disk's strips out of a file of stripes
   show      draws a code, a plan, or why there is none
   help      help COMMAND, or COMMAND --help, tells more
@@ -30,8 +30,9 @@ can't be used. A refusal is its number, its place and a sentence, on standard er
 pub const DEMO: &str = "\
 usage: navorzim demo [--keep DIR]
 
-Makes an array, encodes a register, loses a disk, plans, checks, rebuilds and compares; then
-asks about the same plan under another layout, and about a disk that can't be rebuilt.
+Makes an array, encodes a register, loses a disk, plans, checks, rebuilds and compares; brings
+one row back for somebody who waits for it; then asks about the same plan under another layout,
+and about a disk that can't be rebuilt.
 
 Works in a temporary folder, which is removed, or in DIR, which must be new or empty.
 Exit status 0 only if everything came out right.
@@ -67,24 +68,33 @@ example: navorzim encode code.sheet --symbol 64 register.txt -o stripes.bin
 ";
 
 pub const PLAN: &str = "\
-usage: navorzim plan CODE DISK -o PLAN
+usage: navorzim plan CODE DISK [--want LIST] -o PLAN
 
 Reads the code sheet CODE; writes the plan sheet PLAN, by which disk DISK can be rebuilt.
 If no plan can do that, says so, prints the pattern that shows it, writes no file and ends
 with status 1: data that differs by the pattern gives the same bytes on all surviving disks.
 
-Refused: the code sheet (1 to 6), 7 (no such disk).
+  --want LIST  plans for these symbols of the disk only: it may read fewer symbols, and may be
+               possible where the whole disk is beyond help. LIST is rows of the disk, 0,2 or
+               0-2, or symbols by number, s5,s7 or s5-s7, or both, separated by commas. Their
+               order doesn't matter, and what is named twice counts once. Without --want the
+               whole disk is wanted.
+
+Refused: the code sheet (1 to 6), 7 (no such disk), 23 (more symbols than the disk has, or one
+that isn't on it; its place counts the wanted symbols from the lowest, from 0).
 
 example: navorzim plan code.sheet 0 -o plan.sheet
+example: navorzim plan code.sheet 0 --want 2,4 -o rows.sheet
 ";
 
 pub const CHECK: &str = "\
 usage: navorzim check CODE DISK PLAN
 
 Reads the code sheet CODE and the plan sheet PLAN, and judges whether the plan brings disk
-DISK back for every stripe of this code; says how many surviving symbols it reads.
+DISK, or the symbols that it lists, back for every stripe of this code; says how many surviving
+symbols it reads, and which rows of the disk it brings back if it lists some.
 
-Refused: the code sheet (1 to 6), 7 (no such disk), the plan (11 to 22).
+Refused: the code sheet (1 to 6), 7 (no such disk), the plan (11 to 23).
 
 example: navorzim check code.sheet 0 plan.sheet
 ";
@@ -93,10 +103,11 @@ pub const REBUILD: &str = "\
 usage: navorzim rebuild CODE DISK PLAN --symbol L STRIPES [-o OUT]
 
 Reads the code sheet CODE, the plan sheet PLAN and the stripes of N × L bytes in STRIPES;
-writes them with the strip of disk DISK rebuilt in each to OUT, or in place of STRIPES.
+writes them with the strip of disk DISK rebuilt in each to OUT, or in place of STRIPES. A plan
+made with --want rebuilds the rows that it lists; the disk's other rows stay as they are.
 The plan is checked for every stripe; what the lost strip holds doesn't matter.
 
-Refused: the code sheet (1 to 6), 7 (no such disk), the plan (11 to 22), 31 (L is 1 to
+Refused: the code sheet (1 to 6), 7 (no such disk), the plan (11 to 23), 31 (L is 1 to
 65,536), 32 (STRIPES isn't whole stripes). STRIPES is then as it was.
 
 example: navorzim rebuild code.sheet 0 plan.sheet --symbol 64 stripes.bin
@@ -115,18 +126,21 @@ example: navorzim strip code.sheet 0 --symbol 64 stripes.bin -o disk0.bin
 ";
 
 pub const SHOW: &str = "\
-usage: navorzim show CODE [--disk D] [--plan PLAN] [--svg FILE]
+usage: navorzim show CODE [--disk D] [--plan PLAN | --want LIST] [--svg FILE]
 
 Reads the code sheet CODE and draws it: disks as columns, rows as cells.
 
   --disk D     disk D is lost: plans its rebuild and draws what is read and the steps, or,
                with status 1, the pattern that shows why no plan can be
   --plan PLAN  draws this plan for disk D instead; it is checked first
+  --want LIST  plans for these symbols of disk D only, as plan --want does; the lost symbols
+               that aren't wanted are drawn apart
   --svg FILE   writes the picture to FILE besides
 
 Colours appear on a terminal, unless NO_COLOR is set; COLUMNS sets the width (80).
 
-Refused: the code sheet (1 to 6), 7 (no such disk), the plan (11 to 22).
+Refused: the code sheet (1 to 6), 7 (no such disk), the plan (11 to 23), the list (23).
 
 example: navorzim show code.sheet --disk 0 --svg plan.svg
+example: navorzim show code.sheet --disk 0 --want 2
 ";

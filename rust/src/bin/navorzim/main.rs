@@ -14,6 +14,7 @@ mod sheets;
 mod stream;
 mod svg;
 mod text;
+mod wanted;
 
 use arguments::shown;
 use failure::Failure;

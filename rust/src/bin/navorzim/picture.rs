@@ -1,15 +1,27 @@
 //! A model of what is drawn: disks as columns, rows as cells, and what happens to each symbol. Text and SVG draw the same model.
 use crate::sheets::{counted, members, Code, Step};
+use crate::wanted::{rows, Wanted};
 
 /// What is told about the code.
 #[derive(Debug)]
 pub enum Story {
     /// the code alone
     Code,
-    /// an accepted plan for a lost disk
-    Plan { disk: usize, reads: u64, steps: Vec<Step> },
-    /// a lost disk that no plan brings back, and the data symbols that show it
-    Pattern { disk: usize, bits: u64 },
+    /// an accepted plan for a lost disk, or for some of its symbols
+    Plan { disk: usize, wanted: Wanted, reads: u64, steps: Vec<Step> },
+    /// no plan can be
+    Stuck(Stuck),
+}
+
+/// Wanted symbols of a lost disk that no plan brings back, all of them.
+#[derive(Debug)]
+pub struct Stuck {
+    pub disk: usize,
+    pub wanted: Wanted,
+    /// the pattern: the data symbols that show it
+    pub bits: u64,
+    /// those of the wanted symbols that can be brought back
+    pub within_reach: Vec<u64>,
 }
 
 /// What happens to a symbol.
@@ -19,15 +31,19 @@ pub enum Mark {
     Data,
     /// a sum
     Sum,
-    /// lost, and rebuilt by the plan
+    /// lost, and rebuilt by a plan for the whole disk
     Lost,
+    /// lost, and rebuilt by a plan for some symbols
+    Wanted,
+    /// lost, and left as it is by a plan for other symbols
+    Unwanted,
     /// survives and is read
     Read,
     /// survives and is not needed
     Idle,
-    /// lost, and not the same in both stripes of a pattern
+    /// lost and wanted, and not the same in both stripes of a pattern
     Differs,
-    /// lost, and the same in both stripes of a pattern
+    /// lost and wanted, and the same in both stripes of a pattern
     Same,
     /// survives, and the pattern's data symbols in it cancel out
     Cancels,
@@ -42,6 +58,8 @@ impl Mark {
             Mark::Data => "data symbol as it is",
             Mark::Sum => "sum of data symbols",
             Mark::Lost => "lost",
+            Mark::Wanted => "lost, wanted",
+            Mark::Unwanted => "lost, not wanted",
             Mark::Read => "survives, read",
             Mark::Idle => "survives, not read",
             Mark::Differs => "lost, differs",
@@ -120,11 +138,11 @@ impl Picture {
             cells: cells.collect(),
             lost: match story {
                 Story::Code => None,
-                Story::Plan { disk, .. } | Story::Pattern { disk, .. } => Some(*disk),
+                Story::Plan { disk, .. } | Story::Stuck(Stuck { disk, .. }) => Some(*disk),
             },
             steps: match story {
                 Story::Plan { steps, .. } => steps.clone(),
-                _ => Vec::new(),
+                Story::Code | Story::Stuck(_) => Vec::new(),
             },
         }
     }
@@ -137,7 +155,7 @@ impl Picture {
     /// The marks that occur, in the order in which a legend explains them, and how many cells have each.
     pub fn legend(&self) -> Vec<(Mark, usize)> {
         use Mark::*;
-        [Data, Sum, Lost, Differs, Same, Read, Cancels, Idle, Apart]
+        [Data, Sum, Lost, Wanted, Differs, Same, Unwanted, Read, Cancels, Idle, Apart]
             .into_iter()
             .map(|mark| (mark, self.cells.iter().filter(|cell| cell.mark == mark).count()))
             .filter(|&(_, cells)| cells > 0)
@@ -158,10 +176,15 @@ fn mark(code: &Code, story: &Story, symbol: usize) -> Mark {
     match story {
         Story::Code if sum.count_ones() == 1 => Mark::Data,
         Story::Code => Mark::Sum,
-        Story::Plan { disk, .. } if lost(*disk) => Mark::Lost,
+        Story::Plan { disk, wanted, .. } if lost(*disk) => match wanted {
+            Wanted::Disk => Mark::Lost,
+            Wanted::Symbols(_) if wanted.has(symbol) => Mark::Wanted,
+            Wanted::Symbols(_) => Mark::Unwanted,
+        },
         Story::Plan { steps, .. } if steps.iter().any(|step| reads(step, symbol)) => Mark::Read,
         Story::Plan { .. } => Mark::Idle,
-        Story::Pattern { disk, bits } => match (lost(*disk), sum & bits) {
+        Story::Stuck(stuck) => match (lost(stuck.disk), sum & stuck.bits) {
+            (true, _) if !stuck.wanted.has(symbol) => Mark::Unwanted,
             (true, common) if common.count_ones() % 2 == 1 => Mark::Differs,
             (true, _) => Mark::Same,
             (false, 0) => Mark::Apart,
@@ -178,41 +201,57 @@ fn reads(step: &Step, symbol: usize) -> bool {
 fn notes(code: &Code, story: &Story) -> Vec<String> {
     match story {
         Story::Code => Vec::new(),
-        Story::Plan { disk, reads, steps } => {
+        Story::Plan { disk, wanted, reads, steps } => {
             let survivors = code.symbols() - code.rows.min(code.symbols());
+            let plan = match wanted {
+                Wanted::Disk => "The plan".to_string(),
+                Wanted::Symbols(symbols) => format!("The plan for its {}", rows(code, symbols)),
+            };
             vec![format!(
-                "Disk {disk} is lost. The plan, checked: {}, reads {reads} of {survivors} surviving symbols.",
+                "Disk {disk} is lost. {plan}, checked: {}, reads {reads} of {survivors} surviving symbols.",
                 counted(steps.len(), "step")
             )]
         }
-        Story::Pattern { disk, bits } => pattern_notes(code, *disk, *bits),
+        Story::Stuck(stuck) => stuck.notes(code),
     }
 }
 
-/// Why no plan can be: what the pattern is and what it shows.
-pub fn pattern_notes(code: &Code, disk: usize, bits: u64) -> Vec<String> {
-    let differing: Vec<String> = (0..code.rows)
-        .filter(|row| {
-            let sum = code.sums.get(disk * code.rows + row).copied().unwrap_or(0);
-            (sum & bits).count_ones() % 2 == 1
-        })
-        .map(|row| row.to_string())
-        .collect();
-    let one = differing.len() == 1;
-    vec![
-        format!("Disk {disk} is lost, and no plan can bring it back."),
-        format!(
-            "The pattern is {bits}, bits {:0width$b} (bit 0 last): {}.",
-            bits,
-            homes(code, bits),
-            width = code.data
-        ),
-        format!(
-            "Stripes that differ by it agree on all surviving disks, not on disk {disk} row{} {}.",
-            if one { "" } else { "s" },
-            differing.join(" ")
-        ),
-    ]
+impl Stuck {
+    /// Why no plan can be: what the pattern is, what it shows, and what is left to be done.
+    pub fn notes(&self, code: &Code) -> Vec<String> {
+        let Stuck { disk, bits, .. } = self;
+        let beyond = match &self.wanted {
+            Wanted::Disk => "it".to_string(),
+            Wanted::Symbols(symbols) if symbols.len() == 1 => format!("its {}", rows(code, symbols)),
+            Wanted::Symbols(symbols) => format!("all of its {}", rows(code, symbols)),
+        };
+        let mut notes = vec![
+            format!("Disk {disk} is lost, and no plan can bring {beyond} back."),
+            format!(
+                "The pattern is {bits}, bits {:0width$b} (bit 0 last): {}.",
+                bits,
+                homes(code, *bits),
+                width = code.data
+            ),
+            format!(
+                "Stripes that differ by it agree on all surviving disks, not on disk {disk} {}.",
+                rows(code, &self.differing(code))
+            ),
+        ];
+        if !self.within_reach.is_empty() {
+            let listed = rows(code, &self.within_reach);
+            let want: Vec<&str> = listed.split(' ').skip(1).collect();
+            notes.push(format!("A plan can bring its {listed} back: --want {}.", want.join(",")));
+        }
+        notes
+    }
+
+    /// The wanted symbols that differ in stripes that differ by the pattern.
+    fn differing(&self, code: &Code) -> Vec<u64> {
+        let odd = |&symbol: &usize| (code.sums[symbol] & self.bits).count_ones() % 2 == 1;
+        let lost = (0..code.symbols()).filter(|&symbol| code.disk_of(symbol) == self.disk);
+        lost.filter(|&symbol| self.wanted.has(symbol)).filter(odd).map(|symbol| symbol as u64).collect()
+    }
 }
 
 /// The data symbols of a set, each with where it stands.

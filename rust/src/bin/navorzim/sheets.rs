@@ -1,6 +1,7 @@
 //! What stands in the sheets, for messages and pictures. The library alone judges them; these readers come after it.
 use crate::failure::{Failure, Refused};
 use crate::files::read_sheet;
+use crate::wanted::{self, Wanted};
 use navorzim::{Family, Refusal, LONGEST_CODE_SHEET, PLAN_BUFFER};
 use std::fmt::{self, Display};
 use std::path::{Path, PathBuf};
@@ -143,9 +144,21 @@ impl Plan {
         Ok(Plan { file: file.to_path_buf(), sheet: read_sheet(file, PLAN_BUFFER)? })
     }
 
+    /// The list of wanted symbols, as far as the sheet goes; edition 1 has none.
+    fn list(&self) -> Option<Vec<u64>> {
+        let [6, 2, _, _, _, _, _, count, rest @ ..] = &self.sheet[..] else { return None };
+        Some(rest.iter().take(usize::from(*count)).map(|&symbol| u64::from(symbol)).collect())
+    }
+
+    /// What an accepted plan wants.
+    pub fn wanted(&self) -> Wanted {
+        self.list().map_or(Wanted::Disk, Wanted::Symbols)
+    }
+
     /// The steps, as many as there are whole.
     pub fn steps(&self) -> Vec<Step> {
-        let steps = self.sheet.get(9..).unwrap_or(&[]).chunks_exact(3);
+        let first = self.list().map_or(9, |list| 10 + list.len());
+        let steps = self.sheet.get(first..).unwrap_or(&[]).chunks_exact(3);
         steps.map(|step| Step { kind: step[0], target: step[1], source: step[2] }).collect()
     }
 
@@ -166,10 +179,14 @@ impl Plan {
                 code.data
             ),
             Refusal::PlanOfAnotherDisk => format!("the plan has {}, asked is {disk}", byte(5)),
-            Refusal::MalformedStep { step } | Refusal::TargetNotLost { step } | Refusal::UnfilledPlaceUsed { step } => {
+            Refusal::MalformedStep { step } | Refusal::TargetNotWanted { step } | Refusal::UnfilledPlaceUsed { step } => {
                 self.step_detail(step)
             }
+            Refusal::PlanSheetEdition => format!("it is {}", byte(1)),
             Refusal::WrongReadCount { .. } => format!("the plan says {}", byte(6)),
+            Refusal::BadWantedList { position } => {
+                wanted::fault(code, disk, &self.list().unwrap_or_default(), position)
+            }
             _ => String::new(),
         }
     }

@@ -18,12 +18,22 @@ fn colours(mark: Mark) -> [&'static str; 3] {
     match mark {
         Mark::Data => ["#e8f1fd", "#8db4e6", "#17406f"],
         Mark::Sum => ["#f1ebfc", "#b39be0", "#472a80"],
-        Mark::Lost => ["#fdeaea", "#d9534f", "#8f1d1a"],
+        Mark::Lost | Mark::Wanted => ["#fdeaea", "#d9534f", "#8f1d1a"],
+        Mark::Unwanted => ["#ffffff", "#d0a3a1", "#94706e"],
         Mark::Same => ["#fdeaea", "#e3a6a4", "#a05250"],
         Mark::Differs => ["#d9534f", "#a83430", "#ffffff"],
         Mark::Read => ["#e2f5e8", "#3c9f5f", "#145a2d"],
         Mark::Cancels => ["#fff3d6", "#d9a634", "#6d4c00"],
         Mark::Idle | Mark::Apart => ["#f6f7f9", "#d3d9e0", "#8a94a0"],
+    }
+}
+
+/// The line of a lost symbol is dashed, and dotted if the symbol is not wanted.
+fn dashes(mark: Mark) -> &'static str {
+    match mark {
+        Mark::Lost | Mark::Wanted | Mark::Same => r#" stroke-dasharray="5 3""#,
+        Mark::Unwanted => r#" stroke-dasharray="1.5 3""#,
+        Mark::Data | Mark::Sum | Mark::Read | Mark::Idle | Mark::Differs | Mark::Cancels | Mark::Apart => "",
     }
 }
 
@@ -135,10 +145,7 @@ impl Page {
 
     fn cell(&mut self, cell: &Cell, x: f64) {
         let [paper, line, ink] = colours(cell.mark);
-        let dashes = match cell.mark {
-            Mark::Lost | Mark::Same => r#" stroke-dasharray="5 3""#,
-            _ => "",
-        };
+        let dashes = dashes(cell.mark);
         let (y, full) = (self.y, cell.spelled(" + "));
         let _ = writeln!(self.body, r#"<g><title>{} = {full} ({})</title>"#, cell.symbol, cell.mark.meaning());
         let _ = writeln!(
@@ -180,11 +187,11 @@ impl Page {
                 x = EDGE;
                 self.y += 24.0;
             }
-            let [paper, line, _] = colours(mark);
+            let ([paper, line, _], dashes) = (colours(mark), dashes(mark));
             let y = self.y;
             let _ = writeln!(
                 self.body,
-                r#"<rect x="{x:.1}" y="{y:.1}" width="16" height="16" rx="4" fill="{paper}" stroke="{line}" stroke-width="1.4"/>"#
+                r#"<rect x="{x:.1}" y="{y:.1}" width="16" height="16" rx="4" fill="{paper}" stroke="{line}" stroke-width="1.4"{dashes}/>"#
             );
             let at = Text { x: x + 24.0, y: y + 12.5, size: 13.0, ink: "#46525f", more: "" };
             self.text(at, &words);

@@ -41,7 +41,8 @@ pub fn draw(picture: &Picture, style: Style) -> String {
 fn sign(mark: Mark) -> char {
     match mark {
         Mark::Data | Mark::Sum => ' ',
-        Mark::Lost => '×',
+        Mark::Lost | Mark::Wanted => '×',
+        Mark::Unwanted => '-',
         Mark::Read => '●',
         Mark::Idle | Mark::Apart => '·',
         Mark::Differs => '≠',
@@ -55,7 +56,8 @@ fn colour(mark: Mark) -> &'static str {
     match mark {
         Mark::Data => "36",
         Mark::Sum => "35",
-        Mark::Lost | Mark::Same => "31",
+        Mark::Lost | Mark::Wanted | Mark::Same => "31",
+        Mark::Unwanted => "2;31",
         Mark::Differs => "1;31",
         Mark::Read => "32",
         Mark::Cancels => "33",
