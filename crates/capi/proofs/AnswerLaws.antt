@@ -1,5 +1,5 @@
 -- What goes out tells the answer: a verdict, what checking answered, a part. Assumes nothing.
-use mathlib.Core.Path.{_≡_, refl, sym, ap, ap₂, subst, _∙_}
+use mathlib.Core.Path.{_≡_, refl, sym, ap, subst, _∙_}
 use mathlib.Core.Bool.{Bool, true, false, cond}
 use mathlib.Core.List.{List}
 use mathlib.Core.Logic.{_↔_}
@@ -11,11 +11,11 @@ use Rattle.capi.specs.declared.OutChecked.{OutChecked}
 use Rattle.capi.specs.declared.OutPart.{OutPart}
 use Rattle.capi.specs.declared.OutSheet.{OutSheet}
 use Rattle.capi.specs.declared.OutVerdict.{OutVerdict}
+use Rattle.plans.specs.Check.{asChecked}
 use Rattle.plans.specs.declared.Checked.{Checked}
 use Rattle.families.specs.FamilySheets.{familyAnswer, familyBuffer, ReadsBack}
 use Rattle.family_codes.specs.declared.Family.{Family}
-use Rattle.families.specs.declared.Written.{Written}
-use Rattle.refusals.specs.Orders.{ifFine}
+use Rattle.refusals.specs.Orders.{Outcome, Fine, Refused, outcome, ifFine, Answer, Gives}
 use Rattle.refusals.specs.declared.Verdict.{Verdict}
 use Rattle.views.specs.Places.{nowhere, stripPart, stripPlace, sliceOf, Shows}
 use Rattle.views.specs.Views.{layoutOf, stripVerdict}
@@ -26,26 +26,26 @@ use Rattle.refusals.specs.declared.Verdict.the-variants as Verdicts
 -- ------------------------------------------------------------------
 -- Verdicts
 
-fine-by-number : (verdict : Verdict) → outVerdict verdict .number ≡ 0 → verdict ≡ Verdicts.Fine
+fine-by-number : (verdict : Verdict) → outVerdict (outcome verdict) .number ≡ 0 → outcome verdict ≡ Fine
 fine-by-number Verdicts.Fine e = refl
 fine-by-number (Verdicts.Refused refusal) e = absurd (number-not-0 refusal e)
 
 -- Number 0 says that nothing was refused
-pub number-0-is-fine : {verdict : Verdict} {out : OutVerdict} → out ≡ outVerdict verdict → out .number ≡ 0 → verdict ≡ Verdicts.Fine
-number-0-is-fine {verdict} told e = fine-by-number verdict (sym (ap (λ (o : OutVerdict). o .number) told) ∙ e)
+pub number-0-is-fine : (verdict : Verdict) {out : OutVerdict} → out ≡ outVerdict (outcome verdict) → out .number ≡ 0 → outcome verdict ≡ Fine
+number-0-is-fine verdict told e = fine-by-number verdict (sym (ap (λ (o : OutVerdict). o .number) told) ∙ e)
 
 -- ------------------------------------------------------------------
 -- What checking answered
 
-accepted-by-reads : (answer : Checked) (count : ℕ) → outChecked answer ≡ outChecked (Checks.Accepted count) → answer ≡ Checks.Accepted count
-accepted-by-reads (Checks.Accepted reads) count e = ap Checks.Accepted (ap (λ (o : OutChecked). o .reads) e)
+accepted-by-reads : (answer : Checked) (count : ℕ) → outChecked (asChecked answer) ≡ outChecked (Gives count) → asChecked answer ≡ Gives count
+accepted-by-reads (Checks.Accepted reads) count e = ap Gives (ap (λ (o : OutChecked). o .reads) e)
 accepted-by-reads (Checks.Refused refusal) count e = absurd (number-not-0 refusal (ap (λ (o : OutChecked). o .number) e))
 
 -- Accepted goes out exactly where the check accepts; with it, demand 2
-pub accepted-out-exactly : {answer : Checked} {out : OutChecked} {Deserved : ℕ → Type 0} → out ≡ outChecked answer
-    → ((count : ℕ) → (answer ≡ Checks.Accepted count) ↔ Deserved count)
-    → (count : ℕ) → (out ≡ outChecked (Checks.Accepted count)) ↔ Deserved count
-accepted-out-exactly {answer} told exactly count = (
+pub accepted-out-exactly : (answer : Checked) {out : OutChecked} {Deserved : ℕ → Type 0} → out ≡ outChecked (asChecked answer)
+    → ((count : ℕ) → (asChecked answer ≡ Gives count) ↔ Deserved count)
+    → (count : ℕ) → (out ≡ outChecked (Gives count)) ↔ Deserved count
+accepted-out-exactly answer told exactly count = (
   λ e. exactly count .0 (accepted-by-reads answer count (sym told ∙ e)),
   λ deserved. told ∙ ap outChecked (exactly count .1 deserved),
 )
@@ -54,12 +54,12 @@ accepted-out-exactly {answer} told exactly count = (
 -- A family
 
 -- What the call promises of its answer, in the words of what went out
-pub family-out : (family : Family) (bytes : ℕ) (before after : List ℕ) {out : OutSheet} {written : Written} → out ≡ outSheet written
+pub family-out : (family : Family) (bytes : ℕ) (before after : List ℕ) {out : OutSheet} {written : Answer ℕ} → out ≡ outSheet written
     → (written ≡ familyAnswer family bytes) × ((after ≡ familyBuffer family before) × ReadsBack written family after)
     → (out ≡ outSheet (familyAnswer family bytes)) × ((after ≡ familyBuffer family before) × ReadsBack (familyAnswer family bytes) family after)
 family-out family bytes before after told promised = (
   told ∙ ap outSheet (promised .0),
-  (promised .1 .0, subst (λ (w : Written). ReadsBack w family after) (promised .0) (promised .1 .1)),
+  (promised .1 .0, subst (λ (w : Answer ℕ). ReadsBack w family after) (promised .0) (promised .1 .1)),
 )
 
 -- ------------------------------------------------------------------
@@ -75,20 +75,20 @@ part-comes-back {part} told =
     ap partBy told ∙ ap (λ (spare : Bool). record { in_spare = spare; start = part .start; length = part .length }) (slice-tells (part .in_spare))
 
 -- So it shows the same bytes of one slice
-pub shows-out : {part : Part} {out : OutPart} {slice shown : List ℕ} {verdict : Verdict} → out ≡ outPart part
+pub shows-out : {part : Part} {out : OutPart} {slice shown : List ℕ} {verdict : Outcome} → out ≡ outPart part
     → Shows part slice shown verdict → Shows (partBy out) slice shown verdict
 shows-out {slice = slice} {shown = shown} {verdict = verdict} told shows =
     subst (λ (p : Part). Shows p slice shown verdict) (sym (part-comes-back told)) shows
 
 -- and of the one of two slices that it lies in
-pub shows-out-of-two : (stripe spare : List ℕ) {part : Part} {out : OutPart} {shown : List ℕ} {verdict : Verdict} → out ≡ outPart part
+pub shows-out-of-two : (stripe spare : List ℕ) {part : Part} {out : OutPart} {shown : List ℕ} {verdict : Outcome} → out ≡ outPart part
     → Shows part (sliceOf part stripe spare) shown verdict → Shows (partBy out) (sliceOf (partBy out) stripe spare) shown verdict
 shows-out-of-two stripe spare {shown = shown} {verdict = verdict} told shows =
     subst (λ (p : Part). Shows p (sliceOf p stripe spare) shown verdict) (sym (part-comes-back told)) shows
 
-strip-part-in-stripe : (verdict : Verdict) (fine : Part) → fine .in_spare ≡ false → ifFine verdict fine nowhere .in_spare ≡ false
-strip-part-in-stripe Verdicts.Fine fine e = e
-strip-part-in-stripe (Verdicts.Refused refusal) fine e = refl
+strip-part-in-stripe : (verdict : Outcome) (fine : Part) → fine .in_spare ≡ false → ifFine verdict fine nowhere .in_spare ≡ false
+strip-part-in-stripe Fine fine e = e
+strip-part-in-stripe (Refused refusal) fine e = refl
 
 -- A strip is a part of the stripe, slice 0
 pub strip-slice-0 : (sheet : List ℕ) (disk size bytes : ℕ) {out : OutPart} → out ≡ outPart (stripPlace sheet disk size bytes) → out .slice ≡ 0

@@ -1,10 +1,9 @@
 -- Every refusal of document 01's table has a number above 0, so that number 0 is free for "nothing refused". Assumes nothing.
 use mathlib.Core.Path.{_≡_, refl}
 use mathlib.Core.Bool.{false}
-use Prim.Native.Nat.{ℕ}
 use lib.Dec.{eqb}
 use borrow.Author.Tests.{eqb-false}
-use Rattle.refusals.specs.Refusals.{numberOf}
+use Rattle.refusals.specs.Refusals.{numbered}
 use Rattle.refusals.specs.declared.Refusal.{Refusal}
 use Rattle.refusals.specs.declared.Refusal.the-variants.{
   CodeSheetTooShort,
@@ -38,7 +37,7 @@ use Rattle.refusals.specs.declared.Refusal.the-variants.{
 }
 
 -- Line by line of the table
-not-numbered-0 : (refusal : Refusal) → eqb (numberOf refusal) 0 ≡ false
+not-numbered-0 : (refusal : Refusal) → eqb (numbered refusal .number) 0 ≡ false
 not-numbered-0 CodeSheetTooShort = refl
 not-numbered-0 CodeSheetTooLong = refl
 not-numbered-0 CodeSheetCount = refl
@@ -69,5 +68,5 @@ not-numbered-0 SheetBufferTooShort = refl
 not-numbered-0 NoSuchSymbol = refl
 
 -- No refusal has number 0
-pub number-not-0 : (refusal : Refusal) → numberOf refusal ≡ 0 → ⊥
-number-not-0 refusal = eqb-false (numberOf refusal) 0 (not-numbered-0 refusal)
+pub number-not-0 : (refusal : Refusal) → numbered refusal .number ≡ 0 → ⊥
+number-not-0 refusal = eqb-false (numbered refusal .number) 0 (not-numbered-0 refusal)

@@ -4,7 +4,6 @@ use mathlib.Core.List.{List, [], _∷_, _++_}
 use Prim.Native.Nat.{ℕ, suc, _≤_}
 use lib.ListN.{getD, length}
 use Rattle.plans.specs.Check.{checked}
-use Rattle.plans.specs.declared.Checked.{Checked}
 use Rattle.encoding.specs.Encoding.{encodedStripe}
 use Rattle.family_codes.specs.Families.{familyCode}
 use Rattle.family_codes.specs.declared.Family.{Family}
@@ -12,14 +11,12 @@ use Rattle.family_codes.specs.declared.Family.the-variants.{Liberation, RowDiag
 use Rattle.gf2.specs.BitSets.{with}
 use Rattle.lines.specs.Lines.{deskText}
 use Rattle.planner.specs.Demand3.{CannotBeRebuilt, IsPlan, Promised}
-use Rattle.planner.specs.Planning.{wholeDisk, listedOn}
-use Rattle.planner.specs.declared.Planned.{Planned}
+use Rattle.planner.specs.Planning.{Found, APattern, wholeDisk, listedOn}
 use Rattle.rebuild.specs.Rebuild.{stripeAfter}
-use Rattle.refusals.specs.declared.Refusal.the-variants.{PlanSheetTooShort, PlanSheetCount, PlanSheetEdition, TargetNotWanted, UnfilledPlaceUsed, NeverFilled, EndsWrong, WrongReadCount, BadWantedList}
+use Rattle.refusals.specs.Refusals.{_at_}
+use Rattle.refusals.specs.Orders.{Answer, Gives, Refuses}
 use Rattle.sheets.specs.CodeReading.{reading}
 use Rattle.sheets.specs.CodeSheets.{rowBytes}
-use Rattle.plans.specs.declared.Checked.the-variants as Answers
-use Rattle.planner.specs.declared.Planned.the-variants as Plans
 
 -- ------------------------------------------------------------------
 -- Sheets
@@ -66,7 +63,7 @@ pub data Case : Type 0 where
   -- Encoding the data under a code sheet gives the stripe, whatever it held before
   encodes : List ℕ → ℕ → List ℕ → List ℕ → Case
   -- Checking a plan sheet for a code sheet and a disk answers so
-  answers : List ℕ → ℕ → List ℕ → Checked → Case
+  answers : List ℕ → ℕ → List ℕ → Answer ℕ → Case
   -- A rebuild of a disk by a plan sheet turns the one stripe, of symbols of so many bytes, into the other
   rebuilds : List ℕ → ℕ → List ℕ → ℕ → List ℕ → List ℕ → Case
   -- For an input the desk prints these lines, as ASCII codes
@@ -76,14 +73,14 @@ pub data Case : Type 0 where
   -- The disk of a code sheet can't be rebuilt: no plan of any length would be accepted, and the pattern is a good one
   pattern-of : List ℕ → ℕ → ℕ → Case
   -- Planning for a code sheet and a disk can only answer so: no other answer keeps what the call promises
-  plans : List ℕ → ℕ → Planned → Case
+  plans : List ℕ → ℕ → Answer Found → Case
   -- Planning with a list of wanted symbols can only answer a plan
   plans-wanted : List ℕ → ℕ → List ℕ → Case
 
 -- The entries of a list from an index on, as many as there are on the right
 abbrev pub From : List ℕ → ℕ → List ℕ → Type 0
-From rows at [] = Unit {0}
-From rows at (row ∷ more) = (getD rows at 0 ≡ row) × From rows (suc at) more
+From rows start [] = Unit {0}
+From rows start (row ∷ more) = (getD rows start 0 ≡ row) × From rows (suc start) more
 
 abbrev pub Right : Case → Type 0
 Right (encodes codeSheet L contents stripe) =
@@ -91,12 +88,12 @@ Right (encodes codeSheet L contents stripe) =
 Right (answers codeSheet disk planSheet answer) = checked codeSheet disk planSheet ≡ answer
 Right (rebuilds codeSheet disk planSheet L before after) = stripeAfter codeSheet disk planSheet L before ≡ after
 Right (prints input text) = deskText input ≡ text
-Right (rows-from family at rows) = From (familyCode family .rows) at rows
+Right (rows-from family start rows) = From (familyCode family .rows) start rows
 Right (pattern-of codeSheet disk pattern) = CannotBeRebuilt (reading codeSheet .code) (wholeDisk disk) pattern
 Right (plans codeSheet disk answer) =
-    (before after : List ℕ) (given : Planned) → 3081 ≤ length before → Promised codeSheet (wholeDisk disk) before after given → given ≡ answer
+    (before after : List ℕ) (given : Answer Found) → 3081 ≤ length before → Promised codeSheet (wholeDisk disk) before after given → given ≡ answer
 Right (plans-wanted codeSheet disk list) =
-    (before after : List ℕ) (given : Planned) → 3114 ≤ length before → Promised codeSheet (listedOn disk list) before after given → IsPlan given
+    (before after : List ℕ) (given : Answer Found) → 3114 ≤ length before → Promised codeSheet (listedOn disk list) before after given → IsPlan given
 
 abbrev pub AllRight : List Case → Type 0
 AllRight [] = Unit {0}
@@ -123,7 +120,7 @@ rulesCases =
     -- P1
     encodes square 1 (0x11 ∷ 0x22 ∷ 0x44 ∷ 0x88 ∷ []) (0x11 ∷ 0x22 ∷ 0x44 ∷ 0x88 ∷ 0x55 ∷ 0xAA ∷ 0x99 ∷ 0x66 ∷ [])
     -- P2: accepted, 3 reads
-    ∷ answers square 0 (squarePlan 3 1 0 7) (Answers.Accepted 3)
+    ∷ answers square 0 (squarePlan 3 1 0 7) (Gives 3)
     -- .. run on P1 with the first two bytes FF FF it gives P1 back
     ∷ rebuilds square 0 (squarePlan 3 1 0 7) 1
     (0xFF ∷ 0xFF ∷ 0x44 ∷ 0x88 ∷ 0x55 ∷ 0xAA ∷ 0x99 ∷ 0x66 ∷ [])
@@ -131,21 +128,21 @@ rulesCases =
     -- .. and the desk prints `code 4 2 4`, `disk 0`, `accepted`, `reads 3`, each on a line, and nothing else
     ∷ prints (0 ∷ 70 ∷ 0 ∷ square ++ squarePlan 3 1 0 7) squareLines
     -- P3: count 4
-    ∷ answers square 0 (squarePlan 4 1 0 7) (Answers.Refused (WrongReadCount 3))
+    ∷ answers square 0 (squarePlan 4 1 0 7) (Refuses (22 at 3))
     -- P4: last source 06
-    ∷ answers square 0 (squarePlan 3 1 0 6) (Answers.Refused (EndsWrong 1))
+    ∷ answers square 0 (squarePlan 3 1 0 6) (Refuses (21 at 1))
     -- P5: first kind 2
-    ∷ answers square 0 (squarePlan 3 2 0 7) (Answers.Refused (UnfilledPlaceUsed 0))
+    ∷ answers square 0 (squarePlan 3 2 0 7) (Refuses (19 at 0))
     -- P6: first target 02
-    ∷ answers square 0 (squarePlan 3 1 2 7) (Answers.Refused (TargetNotWanted 0))
+    ∷ answers square 0 (squarePlan 3 1 2 7) (Refuses (18 at 0))
     -- P7: no steps
-    ∷ answers square 0 (6 ∷ 1 ∷ 4 ∷ 2 ∷ 4 ∷ 0 ∷ 3 ∷ 0 ∷ 0 ∷ []) (Answers.Refused (NeverFilled 0))
+    ∷ answers square 0 (6 ∷ 1 ∷ 4 ∷ 2 ∷ 4 ∷ 0 ∷ 3 ∷ 0 ∷ 0 ∷ []) (Refuses (20 at 0))
     -- P8: no plan; the pattern is 1
     ∷ pattern-of apart 0 1
     -- .. and planning answers it
-    ∷ plans apart 0 (Plans.Pattern 1)
+    ∷ plans apart 0 (Gives (APattern 1))
     -- P9: one clear, 0 reads
-    ∷ answers emptyRow 0 (6 ∷ 1 ∷ 2 ∷ 1 ∷ 1 ∷ 0 ∷ 0 ∷ 1 ∷ 0 ∷ 0 ∷ 0 ∷ 0 ∷ []) (Answers.Accepted 0)
+    ∷ answers emptyRow 0 (6 ∷ 1 ∷ 2 ∷ 1 ∷ 1 ∷ 0 ∷ 0 ∷ 1 ∷ 0 ∷ 0 ∷ 0 ∷ 0 ∷ []) (Gives 0)
     -- P10
     ∷ rows-from (RowDiagonal 3) 0 (1 ∷ 2 ∷ 4 ∷ 8 ∷ 5 ∷ 10 ∷ 1 ∷ 6 ∷ [])
     -- P11: row 31 has bits 1, 7, 13, 18, 19, 20; row 34 has bits 4, 5, 10, 11, 17, 23
@@ -157,29 +154,29 @@ rulesCases =
 abbrev pub wantedCases : List Case
 wantedCases =
     -- symbol 0 alone: accepted, 2 reads
-    answers square 0 (wantedPlan 2 (1 ∷ 0 ∷ stepsOfSymbol0)) (Answers.Accepted 2)
+    answers square 0 (wantedPlan 2 (1 ∷ 0 ∷ stepsOfSymbol0)) (Gives 2)
     -- .. and symbol 1, lost and not wanted, keeps its byte
     ∷ rebuilds square 0 (wantedPlan 2 (1 ∷ 0 ∷ stepsOfSymbol0)) 1
     (0xFF ∷ 0xEE ∷ 0x44 ∷ 0x88 ∷ 0x55 ∷ 0xAA ∷ 0x99 ∷ 0x66 ∷ [])
     (0x11 ∷ 0xEE ∷ 0x44 ∷ 0x88 ∷ 0x55 ∷ 0xAA ∷ 0x99 ∷ 0x66 ∷ [])
     -- a target that isn't wanted
-    ∷ answers square 0 (wantedPlan 2 (1 ∷ 1 ∷ stepsOfSymbol0)) (Answers.Refused (TargetNotWanted 0))
+    ∷ answers square 0 (wantedPlan 2 (1 ∷ 1 ∷ stepsOfSymbol0)) (Refuses (18 at 0))
     -- a source that is lost and not wanted
-    ∷ answers square 0 (wantedPlan 2 (1 ∷ 0 ∷ 1 ∷ 0 ∷ 1 ∷ 0 ∷ 1 ∷ [])) (Answers.Refused (UnfilledPlaceUsed 0))
+    ∷ answers square 0 (wantedPlan 2 (1 ∷ 0 ∷ 1 ∷ 0 ∷ 1 ∷ 0 ∷ 1 ∷ [])) (Refuses (19 at 0))
     -- row 1 is wanted: never filled, and ending wrong
-    ∷ answers square 0 (wantedPlan 0 (1 ∷ 1 ∷ 0 ∷ 0 ∷ [])) (Answers.Refused (NeverFilled 1))
-    ∷ answers square 0 (wantedPlan 1 (1 ∷ 1 ∷ 1 ∷ 0 ∷ 1 ∷ 1 ∷ 3 ∷ [])) (Answers.Refused (EndsWrong 1))
+    ∷ answers square 0 (wantedPlan 0 (1 ∷ 1 ∷ 0 ∷ 0 ∷ [])) (Refuses (20 at 1))
+    ∷ answers square 0 (wantedPlan 1 (1 ∷ 1 ∷ 1 ∷ 0 ∷ 1 ∷ 1 ∷ 3 ∷ [])) (Refuses (21 at 1))
     -- lists: none, more than r, an equal neighbour, a falling one, a symbol of another disk
-    ∷ answers square 0 (wantedPlan 2 (0 ∷ 0 ∷ 0 ∷ [])) (Answers.Refused (BadWantedList 0))
-    ∷ answers square 0 (wantedPlan 2 (3 ∷ 0 ∷ 0 ∷ 1 ∷ 0 ∷ 0 ∷ [])) (Answers.Refused (BadWantedList 0))
-    ∷ answers square 0 (wantedPlan 2 (2 ∷ 0 ∷ 0 ∷ 0 ∷ 0 ∷ [])) (Answers.Refused (BadWantedList 1))
-    ∷ answers square 0 (wantedPlan 2 (2 ∷ 1 ∷ 0 ∷ 0 ∷ 0 ∷ [])) (Answers.Refused (BadWantedList 1))
-    ∷ answers square 0 (wantedPlan 2 (1 ∷ 2 ∷ 0 ∷ 0 ∷ [])) (Answers.Refused (BadWantedList 0))
+    ∷ answers square 0 (wantedPlan 2 (0 ∷ 0 ∷ 0 ∷ [])) (Refuses (23 at 0))
+    ∷ answers square 0 (wantedPlan 2 (3 ∷ 0 ∷ 0 ∷ 1 ∷ 0 ∷ 0 ∷ [])) (Refuses (23 at 0))
+    ∷ answers square 0 (wantedPlan 2 (2 ∷ 0 ∷ 0 ∷ 0 ∷ 0 ∷ [])) (Refuses (23 at 1))
+    ∷ answers square 0 (wantedPlan 2 (2 ∷ 1 ∷ 0 ∷ 0 ∷ 0 ∷ [])) (Refuses (23 at 1))
+    ∷ answers square 0 (wantedPlan 2 (1 ∷ 2 ∷ 0 ∷ 0 ∷ [])) (Refuses (23 at 0))
     -- the order: a list beyond the sheet's end, then 1,025 steps, then the list
-    ∷ answers square 0 (wantedPlan 2 (200 ∷ 1 ∷ 0 ∷ 1 ∷ 4 ∷ [])) (Answers.Refused PlanSheetTooShort)
-    ∷ answers square 0 (wantedPlan 2 (2 ∷ 1 ∷ 0 ∷ 1 ∷ 4 ∷ [])) (Answers.Refused PlanSheetCount)
+    ∷ answers square 0 (wantedPlan 2 (200 ∷ 1 ∷ 0 ∷ 1 ∷ 4 ∷ [])) (Refuses (11 at 0))
+    ∷ answers square 0 (wantedPlan 2 (2 ∷ 1 ∷ 0 ∷ 1 ∷ 4 ∷ [])) (Refuses (13 at 0))
     -- another edition
-    ∷ answers square 0 (6 ∷ 3 ∷ 4 ∷ 2 ∷ 4 ∷ 0 ∷ 2 ∷ 0 ∷ 0 ∷ []) (Answers.Refused PlanSheetEdition)
+    ∷ answers square 0 (6 ∷ 3 ∷ 4 ∷ 2 ∷ 4 ∷ 0 ∷ 2 ∷ 0 ∷ 0 ∷ []) (Refuses (14 at 0))
     -- of a disk that can't be rebuilt whole, the row that can
     ∷ plans-wanted half 0 (0 ∷ [])
     ∷ []

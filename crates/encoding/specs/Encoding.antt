@@ -6,21 +6,20 @@ use Rattle.codes.specs.Codes.{symbols, matrix}
 use Rattle.codes.specs.Lengths.{symbolLengthFaults, lengthFault}
 use Rattle.codes.specs.declared.Code.{Code}
 use Rattle.gf2.specs.Stripes.{encoding}
-use Rattle.refusals.specs.Orders.{Fault, andThen, ifFine}
-use Rattle.refusals.specs.declared.Refusal.the-variants.{DataLength, StripeLength}
-use Rattle.refusals.specs.declared.Verdict.{Verdict}
+use Rattle.refusals.specs.Orders.{Fault, andThen, ifFine, Outcome}
+use Rattle.refusals.specs.Refusals.{_at_}
 use Rattle.sheets.specs.CodeReading.{reading}
 
 -- 31, 33 (data isn't K × L bytes), 32 (stripe isn't N × L bytes)
 abbrev pub encodeFaults : ℕ → ℕ → ℕ → ℕ → ℕ → List Fault
 encodeFaults count dataSymbols size dataBytes stripeBytes =
     symbolLengthFaults size
-    ++ lengthFault dataBytes dataSymbols size DataLength
-    ∷ lengthFault stripeBytes count size StripeLength
+    ++ lengthFault dataBytes dataSymbols size (33 at 0)
+    ∷ lengthFault stripeBytes count size (32 at 0)
     ∷ []
 
 -- Encoding: code sheet, 31, 33, 32
-unfoldable pub encodeVerdict : List ℕ → ℕ → ℕ → ℕ → Verdict
+unfoldable pub encodeVerdict : List ℕ → ℕ → ℕ → ℕ → Outcome
 encodeVerdict sheet size dataBytes stripeBytes =
     let code = reading sheet .code in
     andThen (reading sheet .verdict) (encodeFaults (symbols code) (code .data_symbols) size dataBytes stripeBytes)

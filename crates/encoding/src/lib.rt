@@ -1,9 +1,9 @@
 // Encoding: the generator-matrix product, symbol by symbol.
 ghost use mathlib.Core.Path.{_≡_};
-ghost use Prim.Native.Nat.{ℕ, _+_, _*_, _≤_, _<_};
+ghost use Prim.Native.Nat.{_+_, _*_, _≤_, _<_};
 ghost use lib.ListN.{length, take, replicate};
 ghost use Rattle.gf2.specs.Stripes.{xorBytes, encodedSymbol, encoding};
-ghost use Rattle.refusals.specs.Orders.{andThen};
+ghost use Rattle.refusals.specs.Orders.{outcome, andThen};
 ghost use Rattle.encoding.specs.Encoding.{encodeFaults, encodeVerdict, encodedStripe};
 use codes::is_length;
 use gf2::BitSet;
@@ -83,7 +83,7 @@ fn encode_test(
     data_bytes: usize,
     stripe_bytes: usize,
 ) -> Verdict
-    ensures { λ r. ⌜ r ≡ andThen «sheet_verdict» (encodeFaults symbols «data_symbols» size «data_bytes» «stripe_bytes») ⌝ }
+    ensures { λ r. ⌜ outcome r ≡ andThen (outcome «sheet_verdict») (encodeFaults symbols «data_symbols» size «data_bytes» «stripe_bytes») ⌝ }
 {
     sheet_verdict
         .or_if(size == 0, Refusal::SymbolLength)
@@ -100,7 +100,7 @@ fn encode_test(
 
 // Encodes data symbols of `size` bytes each into the whole stripe. A refusal changes no byte.
 pub fn encode(sheet: &[u8], size: usize, contents: &[u8], stripe: &mut [u8]) -> Verdict
-    ensures answer { λ r. ⌜ r ≡ encodeVerdict (now (sheet .entry)) size (length (now (contents .entry))) (length (now (stripe .entry))) ⌝ }
+    ensures answer { λ r. ⌜ outcome r ≡ encodeVerdict (now (sheet .entry)) size (length (now (contents .entry))) (length (now (stripe .entry))) ⌝ }
     ensures stripe { λ r. ⌜ now (stripe .exit) ≡ encodedStripe (now (sheet .entry)) size (now (contents .entry)) (now (stripe .entry)) ⌝ }
 {
     let reading = read_code(sheet);

@@ -9,14 +9,11 @@ use lib.ListN.{length, take, drop}
 use lib.Seq.{take-append-seam}
 use borrow.Author.Tests.{ltb-false}
 use Rattle.codes.specs.Layouts.{symbolsOf}
-use Rattle.refusals.specs.Orders.{orIf}
-use Rattle.refusals.specs.declared.Refusal.{Refusal}
-use Rattle.refusals.specs.declared.Refusal.the-variants.{NotInFamily, SheetBufferTooShort}
-use Rattle.refusals.specs.declared.Verdict.the-variants as Verdicts
+use Rattle.refusals.specs.Orders.{Fine, Refused, orIf, Gives, Refuses}
+use Rattle.refusals.specs.Refusals.{Numbered, _at_}
 use Rattle.sheets.specs.CodeReading.{reading}
 use Rattle.sheets.specs.CodeSheets.{sheetLength}
 use Rattle.family_codes.specs.declared.Family.{Family}
-use Rattle.families.specs.declared.Written.the-variants.{Sheet, Refused}
 use Rattle.family_codes.specs.Families.{listed, familyLayout, familyCode}
 use Rattle.families.specs.FamilySheets.{familySheet, familyVerdict, familyAnswer, familyBuffer, ReadsBack}
 use Rattle.family_codes.proofs.LimitLaws.{familyCode-within-limits}
@@ -36,30 +33,30 @@ length-familySheet family h =
 
 module _ (family : Family) (size : ℕ) where
   -- 36, whatever the buffer
-  pub familyVerdict-of-unlisted : listed family ≡ false → Verdicts.Refused NotInFamily ≡ familyVerdict family size
+  pub familyVerdict-of-unlisted : listed family ≡ false → Refused (36 at 0) ≡ familyVerdict family size
   unfolding familyVerdict orIf
   familyVerdict-of-unlisted h = rw h
 
   -- 37 is all that is left to test
   pub familyVerdict-of-listed : listed family ≡ true
-      → orIf Verdicts.Fine (ltb size (length (familySheet family))) SheetBufferTooShort ≡ familyVerdict family size
+      → orIf Fine (ltb size (length (familySheet family))) (37 at 0) ≡ familyVerdict family size
   unfolding familyVerdict orIf
   familyVerdict-of-listed h = rw h
 
   familyVerdict-of-short-buffer : listed family ≡ true → ltb size (length (familySheet family)) ≡ true
-      → Verdicts.Refused SheetBufferTooShort ≡ familyVerdict family size
+      → Refused (37 at 0) ≡ familyVerdict family size
   unfolding familyVerdict orIf
   familyVerdict-of-short-buffer h e = rw (h, e)
 
   -- Where nothing is refused, the family is listed and its sheet has room
-  pub fine-so-listed : familyVerdict family size ≡ Verdicts.Fine → listed family ≡ true
+  pub fine-so-listed : familyVerdict family size ≡ Fine → listed family ≡ true
   fine-so-listed h = split (listed family) refl
     where
       split : (known : Bool) → listed family ≡ known → listed family ≡ true
       split true e = e
       split false e = cc (familyVerdict-of-unlisted e)
 
-  pub fine-so-room : familyVerdict family size ≡ Verdicts.Fine → length (familySheet family) ≤ size
+  pub fine-so-room : familyVerdict family size ≡ Fine → length (familySheet family) ≤ size
   fine-so-room h = ltb-false size (length (familySheet family)) (split (ltb size (length (familySheet family))) refl)
     where
       split : (short : Bool) → ltb size (length (familySheet family)) ≡ short → ltb size (length (familySheet family)) ≡ false
@@ -71,17 +68,17 @@ module _ (family : Family) (size : ℕ) where
 
 module _ (family : Family) (buffer : List ℕ) where
   -- A refusal is the answer, and no byte changes
-  pub refused-call : (refusal : Refusal) → familyVerdict family (length buffer) ≡ Verdicts.Refused refusal
-      → (Refused refusal ≡ familyAnswer family (length buffer))
-      × ((buffer ≡ familyBuffer family buffer) × ReadsBack (Refused refusal) family buffer)
+  pub refused-call : (refusal : Numbered) → familyVerdict family (length buffer) ≡ Refused refusal
+      → (Refuses refusal ≡ familyAnswer family (length buffer))
+      × ((buffer ≡ familyBuffer family buffer) × ReadsBack (Refuses refusal) family buffer)
   unfolding familyAnswer familyBuffer
   refused-call refusal e = (rw e, (rw e, tt))
 
   -- A sheet's length is the answer, the sheet stands at the front, and it is read back
-  pub written-call : (new : List ℕ) (size : ℕ) → familyVerdict family (length buffer) ≡ Verdicts.Fine
+  pub written-call : (new : List ℕ) (size : ℕ) → familyVerdict family (length buffer) ≡ Fine
       → size ≡ length (familySheet family) → new ≡ familySheet family ++ drop (length (familySheet family)) buffer
-      → (Sheet size ≡ familyAnswer family (length buffer))
-      × ((new ≡ familyBuffer family buffer) × ReadsBack (Sheet size) family new)
+      → (Gives size ≡ familyAnswer family (length buffer))
+      × ((new ≡ familyBuffer family buffer) × ReadsBack (Gives size) family new)
   unfolding familyAnswer familyBuffer
   written-call new size e f g =
       let sheet = familySheet family in

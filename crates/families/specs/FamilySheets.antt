@@ -5,10 +5,8 @@ use mathlib.Core.List.{List, [], _∷_, _++_}
 use Prim.Native.Nat.{ℕ}
 use lib.Dec.{ltb}
 use lib.ListN.{length, take, drop}
-use Rattle.refusals.specs.Orders.{Fault, _gets_, firstOf, ifFine}
-use Rattle.refusals.specs.declared.Refusal.the-variants.{NotInFamily, SheetBufferTooShort}
-use Rattle.refusals.specs.declared.Verdict.{Verdict}
-use Rattle.refusals.specs.declared.Verdict.the-variants as Verdicts
+use Rattle.refusals.specs.Orders.{Fault, _gets_, firstOf, ifFine, Outcome, Fine, Answer, Gives, Refuses, answering}
+use Rattle.refusals.specs.Refusals.{_at_, numbered}
 use Rattle.sheets.specs.CodeReading.{reading}
 use Rattle.sheets.specs.CodeSheets.{codeSheet}
 use Rattle.family_codes.specs.declared.Family.{Family}
@@ -23,22 +21,22 @@ familySheet family = codeSheet (familyCode family)
 -- 36: family parameters not listed, or n, N or r above its limit. 37: sheet buffer shorter than the sheet to be written
 abbrev pub familyFaults : Family → ℕ → List Fault
 familyFaults family bufferLength =
-    (not (listed family) gets NotInFamily)
-    ∷ (ltb bufferLength (length (familySheet family)) gets SheetBufferTooShort)
+    (not (listed family) gets 36 at 0)
+    ∷ (ltb bufferLength (length (familySheet family)) gets 37 at 0)
     ∷ []
 
 -- The first of them that holds, or none
-unfoldable pub familyVerdict : Family → ℕ → Verdict
+unfoldable pub familyVerdict : Family → ℕ → Outcome
 familyVerdict family bufferLength = firstOf (familyFaults family bufferLength)
 
--- The sheet's length, or the refusal
-abbrev pub sheetOrRefusal : Verdict → ℕ → Written
-sheetOrRefusal Verdicts.Fine sheetLength = Sheet sheetLength
-sheetOrRefusal (Verdicts.Refused refusal) sheetLength = Refused refusal
+-- What a `Written` stands for
+abbrev pub asWritten : Written → Answer ℕ
+asWritten (Sheet sheetLength) = Gives sheetLength
+asWritten (Refused refusal) = Refuses (numbered refusal)
 
--- What the call answers
-unfoldable pub familyAnswer : Family → ℕ → Written
-familyAnswer family bufferLength = sheetOrRefusal (familyVerdict family bufferLength) (length (familySheet family))
+-- What the call answers: the sheet's length, or the refusal
+unfoldable pub familyAnswer : Family → ℕ → Answer ℕ
+familyAnswer family bufferLength = answering (familyVerdict family bufferLength) (length (familySheet family))
 
 -- The sheet at the front of the buffer, bytes behind it stay; where the call refuses, no byte changes
 unfoldable pub familyBuffer : Family → List ℕ → List ℕ
@@ -46,7 +44,7 @@ familyBuffer family buffer =
     ifFine (familyVerdict family (length buffer)) (familySheet family ++ drop (length (familySheet family)) buffer) buffer
 
 -- Where a sheet was written, reading as many bytes as were answered refuses nothing and gives this very code
-abbrev pub ReadsBack : Written → Family → List ℕ → Type 0
-ReadsBack (Sheet sheetLength) family buffer =
-    reading (take sheetLength buffer) ≡ record { verdict = Verdicts.Fine; code = familyCode family }
-ReadsBack (Refused refusal) family buffer = Unit
+abbrev pub ReadsBack : Answer ℕ → Family → List ℕ → Type 0
+ReadsBack (Gives sheetLength) family buffer =
+    reading (take sheetLength buffer) ≡ record { verdict = Fine; code = familyCode family }
+ReadsBack (Refuses refusal) family buffer = Unit

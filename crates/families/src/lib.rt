@@ -3,7 +3,8 @@ ghost use mathlib.Core.Path.{_≡_};
 ghost use mathlib.Core.Bool.{true};
 ghost use lib.ListN.{length};
 ghost use Rattle.family_codes.specs.Families.{listed};
-ghost use Rattle.families.specs.FamilySheets.{familySheet, familyVerdict, familyAnswer, familyBuffer, ReadsBack};
+ghost use Rattle.refusals.specs.Orders.{outcome};
+ghost use Rattle.families.specs.FamilySheets.{familySheet, familyVerdict, asWritten, familyAnswer, familyBuffer, ReadsBack};
 pub use family_codes::Family;
 use family_codes::code::code_of;
 use family_codes::listed::is_listed;
@@ -30,7 +31,7 @@ fn sheet_length_of(family: Family) -> usize
 
 // The first refusal, 36 before 37. Only the sheet of a listed family has a length to compute.
 fn verdict_on(family: Family, buffer_length: usize) -> Verdict
-    ensures { λ r. ⌜ r ≡ familyVerdict family «buffer_length» ⌝ }
+    ensures { λ r. ⌜ outcome r ≡ familyVerdict family «buffer_length» ⌝ }
 {
     if !is_listed(family) {
         return Verdict::Refused(Refusal::NotInFamily);
@@ -43,9 +44,9 @@ fn verdict_on(family: Family, buffer_length: usize) -> Verdict
 
 // Writes the family's code sheet at the front of the buffer and answers its length; bytes behind it stay.
 pub fn write_family(family: Family, buffer: &mut [u8]) -> Written
-    ensures answer { λ r. ⌜ r ≡ familyAnswer family (length (now (buffer .entry))) ⌝ }
+    ensures answer { λ r. ⌜ asWritten r ≡ familyAnswer family (length (now (buffer .entry))) ⌝ }
     ensures buffer { λ r. ⌜ now (buffer .exit) ≡ familyBuffer family (now (buffer .entry)) ⌝ }
-    ensures read_back { λ r. ⌜ ReadsBack r family (now (buffer .exit)) ⌝ }
+    ensures read_back { λ r. ⌜ ReadsBack (asWritten r) family (now (buffer .exit)) ⌝ }
 {
     let verdict = verdict_on(family, buffer.len());
     match verdict {

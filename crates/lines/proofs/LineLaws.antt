@@ -11,46 +11,42 @@ use lib.Dec.{leb}
 use lib.ListN.{length, take, drop, getD, set, length-append}
 use lib.Seq.{paste-suc, getD-take, take-length, length-take-le}
 use Rattle.plans.specs.Check.{checked}
-use Rattle.plans.specs.declared.Checked.{Checked}
 use Rattle.codes.specs.declared.Code.{Code}
 use Rattle.lines.specs.Lines.{codeSheetIn, planSheetIn, diskIn, linesOf, deskText, writtenLength, writtenOver}
 use Rattle.texts.specs.Lines.{codeLine, refusalLine}
 use Rattle.texts.specs.Texts.{textOf, Holds}
 use Rattle.texts.specs.declared.Text.{Text}
 use Rattle.texts.proofs.TextLaws.{length-textOf}
-use Rattle.refusals.specs.Refusals.{numberOf, placeOf}
-use Rattle.refusals.specs.declared.Refusal.{Refusal}
-use Rattle.refusals.specs.declared.Verdict.{Verdict}
-use Rattle.refusals.specs.declared.Verdict.the-variants.{Fine, Refused}
-use Rattle.sheets.specs.CodeReading.{reading}
-use Rattle.sheets.specs.declared.Reading.{Reading}
+use Rattle.refusals.specs.Refusals.{Numbered}
+use Rattle.refusals.specs.Orders.{Outcome, Fine, Refused, Answer}
+use Rattle.sheets.specs.CodeReading.{CodeRead, reading}
 
 -- ------------------------------------------------------------------
 -- What the text is
 
-module _ (input sheet : List ℕ) (read : Reading) (as-sheet : sheet ≡ codeSheetIn input) (as-read : read ≡ reading sheet) where
+module _ (input sheet : List ℕ) (read : CodeRead) (as-sheet : sheet ≡ codeSheetIn input) (as-read : read ≡ reading sheet) where
   -- A refused code sheet's line stands alone
-  pub text-if-refused : (refusal : Refusal) → read .verdict ≡ Refused refusal → refusalLine (numberOf refusal) (placeOf refusal) ≡ deskText input
+  pub text-if-refused : (refusal : Numbered) → read .verdict ≡ Refused refusal → refusalLine (refusal .number) (refusal .place) ≡ deskText input
   unfolding deskText
   text-if-refused refusal e =
       let answer = checked (codeSheetIn input) (diskIn input) (planSheetIn input) in
-      ap (λ (v : Verdict). linesOf v (read .code) (diskIn input) answer) (sym e)
-      ∙ ap (λ (r : Reading). linesOf (r .verdict) (r .code) (diskIn input) answer) (as-read ∙ ap reading as-sheet)
+      ap (λ (v : Outcome). linesOf v (read .code) (diskIn input) answer) (sym e)
+      ∙ ap (λ (r : CodeRead). linesOf (r .verdict) (r .code) (diskIn input) answer) (as-read ∙ ap reading as-sheet)
 
   -- Else the lines of the code, the disk and the answer
-  pub text-if-fine : (plan : List ℕ) (disk : ℕ) (answer : Checked) → plan ≡ planSheetIn input → disk ≡ diskIn input → answer ≡ checked sheet disk plan
+  pub text-if-fine : (plan : List ℕ) (disk : ℕ) (answer : Answer ℕ) → plan ≡ planSheetIn input → disk ≡ diskIn input → answer ≡ checked sheet disk plan
       → read .verdict ≡ Fine → linesOf Fine (read .code) disk answer ≡ deskText input
   unfolding deskText
   text-if-fine plan disk answer as-plan as-disk as-answer e =
-      ap (λ (v : Verdict). linesOf v (read .code) disk answer) (sym e)
-      ∙ ap (λ (r : Reading). linesOf (r .verdict) (r .code) disk answer) (as-read ∙ ap reading as-sheet)
-      ∙ ap₂ (λ (d : ℕ) (a : Checked). linesOf (reading (codeSheetIn input) .verdict) (reading (codeSheetIn input) .code) d a) as-disk checked-so
+      ap (λ (v : Outcome). linesOf v (read .code) disk answer) (sym e)
+      ∙ ap (λ (r : CodeRead). linesOf (r .verdict) (r .code) disk answer) (as-read ∙ ap reading as-sheet)
+      ∙ ap₂ (λ (d : ℕ) (a : Answer ℕ). linesOf (reading (codeSheetIn input) .verdict) (reading (codeSheetIn input) .code) d a) as-disk checked-so
     where
       checked-so : answer ≡ checked (codeSheetIn input) (diskIn input) (planSheetIn input)
       checked-so = cc
 
 -- The lines of any verdict and answer are not empty
-lines-not-empty : (verdict : Verdict) (code : Code) (disk : ℕ) (answer : Checked) → 0 < length (linesOf verdict code disk answer)
+lines-not-empty : (verdict : Outcome) (code : Code) (disk : ℕ) (answer : Answer ℕ) → 0 < length (linesOf verdict code disk answer)
 unfolding refusalLine codeLine
 lines-not-empty (Refused refusal) code disk answer = simp length-append (omega arith)
 lines-not-empty Fine code disk answer = simp length-append (omega arith)

@@ -6,12 +6,8 @@ use Prim.Native.Nat.{ℕ, _+_, _*_}
 use lib.Dec.{leb}
 use lib.ListN.{length, take, drop, getD}
 use Rattle.plans.specs.Check.{checked}
-use Rattle.plans.specs.declared.Checked.{Checked}
-use Rattle.plans.specs.declared.Checked.the-variants as Answers
 use Rattle.codes.specs.declared.Code.{Code}
-use Rattle.refusals.specs.Refusals.{numberOf, placeOf}
-use Rattle.refusals.specs.declared.Verdict.{Verdict}
-use Rattle.refusals.specs.declared.Verdict.the-variants as Verdicts
+use Rattle.refusals.specs.Orders.{Outcome, Fine, Refused, Answer, Gives, Refuses}
 use Rattle.sheets.specs.CodeReading.{reading}
 use Rattle.texts.specs.Lines.{codeLine, diskLine, acceptedLines, refusalLine}
 
@@ -39,14 +35,14 @@ planSheetIn input = drop (sheetLengthIn input) (drop 3 input)
 -- The lines
 
 -- What the check answers
-abbrev pub answerLines : Checked → List ℕ
-answerLines (Answers.Accepted reads) = acceptedLines reads
-answerLines (Answers.Refused refusal) = refusalLine (numberOf refusal) (placeOf refusal)
+abbrev pub answerLines : Answer ℕ → List ℕ
+answerLines (Gives reads) = acceptedLines reads
+answerLines (Refuses refusal) = refusalLine (refusal .number) (refusal .place)
 
 -- "If the code sheet is refused, the refusal line stands alone"; else the code, the disk and the answer
-abbrev pub linesOf : Verdict → Code → ℕ → Checked → List ℕ
-linesOf (Verdicts.Refused refusal) code disk answer = refusalLine (numberOf refusal) (placeOf refusal)
-linesOf Verdicts.Fine code disk answer =
+abbrev pub linesOf : Outcome → Code → ℕ → Answer ℕ → List ℕ
+linesOf (Refused refusal) code disk answer = refusalLine (refusal .number) (refusal .place)
+linesOf Fine code disk answer =
     codeLine (code .layout .disks) (code .layout .height) (code .data_symbols) ++ diskLine disk ++ answerLines answer
 
 -- What the desk prints for an input

@@ -3,8 +3,9 @@ ghost use mathlib.Core.Path.{_≡_};
 ghost use Prim.Native.Nat.{_≤_, _<_};
 ghost use lib.ListN.{length};
 ghost use Rattle.lines.specs.Lines.{sheetLengthIn, codeSheetIn, planSheetIn, answerLines, linesOf, deskText, writtenLength, writtenOver};
-ghost use Rattle.refusals.specs.Refusals.{numberOf, placeOf};
-ghost use Rattle.refusals.specs.declared.Verdict.the-variants.{Fine};
+ghost use Rattle.refusals.specs.Refusals.{numbered};
+ghost use Rattle.refusals.specs.Orders.{Fine};
+ghost use Rattle.plans.specs.Check.{asChecked};
 ghost use Rattle.texts.specs.Lines.{refusalLine};
 ghost use Rattle.texts.specs.Texts.{textOf, HasRoom, Extended, Holds};
 use checker::Checked;
@@ -52,7 +53,7 @@ fn plan_sheet(input: &[u8]) -> &[u8]
 // The lines of what the check answers.
 fn push_answer(text: Text, answer: Checked) -> Text
     requires { ⌜ HasRoom text 53 ⌝ }
-    ensures { λ r. ⌜ Extended text 53 (answerLines answer) r ⌝ }
+    ensures { λ r. ⌜ Extended text 53 (answerLines (asChecked answer)) r ⌝ }
 {
     match answer {
         Checked::Accepted { reads } => text.push_accepted(reads),
@@ -62,14 +63,14 @@ fn push_answer(text: Text, answer: Checked) -> Text
 
 // The line of a refused code sheet, alone.
 fn refusal_text(refusal: Refusal) -> Text
-    ensures { λ r. ⌜ Holds r (refusalLine (numberOf refusal) (placeOf refusal)) ⌝ }
+    ensures { λ r. ⌜ Holds r (refusalLine (numbered refusal .number) (numbered refusal .place)) ⌝ }
 {
     push_refusal(Text::empty(), refusal)
 }
 
 // The lines for a code sheet that was read: the code, the disk, the answer.
 fn report(code: Code, disk: usize, answer: Checked) -> Text
-    ensures { λ r. ⌜ Holds r (linesOf Fine code disk answer) ⌝ }
+    ensures { λ r. ⌜ Holds r (linesOf Fine code disk (asChecked answer)) ⌝ }
 {
     let layout = code.layout;
     let opening = Text::empty()

@@ -11,7 +11,7 @@ use lib.Seq.{take-all}
 use Rattle.gf2.specs.BitSets.{has, with}
 use Rattle.gf2.proofs.SearchLaws.{firstFrom-none, firstFrom-found, none-if-firstFrom-behind}
 use Rattle.gf2.proofs.SetLaws.{has-empty, has-with}
-use Rattle.refusals.specs.declared.Refusal.{Refusal}
+use Rattle.refusals.specs.Refusals.{Numbered}
 use Rattle.refusals.proofs.OrderLaws.{NoneHolds}
 use Rattle.lists.specs.Lists.{notRising, firstBad, listFaults, GoodList, listed}
 
@@ -35,7 +35,7 @@ rising-here : (list : List ℕ) (i : ℕ) → (1 ≤ i → getD list (i - 1) 0 <
 rising-here list zero above = notRising-first list
 rising-here list (suc i) above = notRising-behind list (suc i) (omega arith) ∙ lt-leb _ _ (above (omega arith))
 
-module _ (least most : ℕ) (allowed : ℕ → Bool) (list : List ℕ) (refusal : ℕ → Refusal) where
+module _ (least most : ℕ) (allowed : ℕ → Bool) (list : List ℕ) (refusal : ℕ → Numbered) where
   -- A list without a fault keeps the rule
   pub good-if-no-fault : NoneHolds (listFaults least most allowed list refusal) → GoodList least most allowed list
   good-if-no-fault none =

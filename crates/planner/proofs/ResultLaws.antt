@@ -22,10 +22,10 @@ use Rattle.gf2.specs.declared.Step.{Step}
 use Rattle.gf2.proofs.Booleans.{bool-cases}
 use Rattle.gf2.proofs.SubsetPlanLaws.{planOf-same}
 use Rattle.writing.specs.PlanSheets.{EditionFits, headFor, headBytes, planSheet, stepsLength, symbolsIn, subsetPlan, sourceCount, PlanFits}
-use Rattle.planner.specs.Planning.{Asked, leastBuffer}
+use Rattle.planner.specs.Planning.{Asked, leastBuffer, APlan, APattern}
+use Rattle.refusals.specs.Orders.{Gives}
 use Rattle.planner.specs.Demand3.{askedSymbols, CannotBeRebuilt}
 use Rattle.planner.specs.Work.{oddPattern, FilledTo, Workable, RightSteps, Worked}
-use Rattle.planner.specs.declared.Planned.the-variants as Answers
 use Rattle.planner.proofs.StripLaws.{filled-are-survivors}
 use Rattle.planner.proofs.WorkLaws.{surviving, left, targets, target-wanted, matrix-row, subsetFor-row-below, subsetOf, stepsFound, found-rules-plans-out, steps-right}
 
@@ -93,7 +93,7 @@ module _ (code : Code) (asked : Asked) {room : ℕ} (workable : Workable code as
 
     -- A pattern answered is a good one, and rules every plan out
     pub worked-pattern : {pattern : ℕ} → pattern ≡ oddPattern remainder (code .rows) (symbolsIn (has wanted) 0 n) → eqb pattern 0 ≡ false
-        → (before : List ℕ) → Worked code asked before before (Answers.Pattern pattern)
+        → (before : List ℕ) → Worked code asked before before (Gives (APattern pattern))
     worked-pattern {pattern} e some before = (
       subst (CannotBeRebuilt code asked) (sym (looked-for e))
           (found-rules-plans-out code (workable .within) asked (workable .disk-below) asked-is-lost (λ none. eqb-false pattern 0 some (looked-for e ∙ none))),
@@ -163,7 +163,7 @@ module _ (code : Code) (asked : Asked) {room : ℕ} (workable : Workable code as
             → size ≡ headBytes (asked .edition) (asked .wanted) + stepsLength (length (subsetPlan (symbols code) (has wanted) subsets))
             → reads ≡ sourceCount (symbols code) (subsetPlan (symbols code) (has wanted) subsets)
             → after ≡ planSheet (headFor (asked .edition) (code .layout) (code .data_symbols) (asked .disk) reads) (asked .wanted) (subsetPlan (symbols code) (has wanted) subsets) ++ drop size before
-            → Worked code asked before after (Answers.Plan size reads)
+            → Worked code asked before after (Gives (APlan size reads))
         worked-plan size-is reads-are first-sheet =
             record {
               steps = subsetPlan (symbols code) (has wanted) subsets;

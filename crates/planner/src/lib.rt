@@ -5,10 +5,9 @@ ghost use lib.ListN.{length};
 ghost use Rattle.codes.specs.Codes.{WithinLimits};
 ghost use Rattle.lists.specs.Lists.{listOrder};
 ghost use Rattle.plans.specs.Judgement.{leastWanted};
-ghost use Rattle.refusals.specs.Orders.{andThen, firstOf};
-ghost use Rattle.refusals.specs.declared.Refusal.the-variants.{BadWantedList};
-ghost use Rattle.refusals.specs.declared.Verdict.the-variants.{Fine};
-ghost use Rattle.planner.specs.Planning.{wholeDisk, listedOn, leastBuffer, roomFaults, planningFaults, planningVerdict, verdictOf, bytesWritten, replacedFront};
+ghost use Rattle.refusals.specs.Orders.{Fine, outcome, andThen, firstOf, outcomeOf};
+ghost use Rattle.refusals.specs.Refusals.{_at_};
+ghost use Rattle.planner.specs.Planning.{wholeDisk, listedOn, leastBuffer, roomFaults, planningFaults, planningVerdict, asPlanned, bytesWritten, replacedFront};
 ghost use Rattle.planner.specs.Demand3.{Demand3, PlansWhereAnyCould, Promised};
 ghost use Rattle.planner.specs.Work.{Workable, Worked};
 ghost use Rattle.writing.specs.PlanSheets.{EditionFits};
@@ -59,7 +58,7 @@ fn list_and_room_test(
     bad: usize,
     buffer_length: usize,
 ) -> Verdict
-    ensures { λ r. ⌜ r ≡ firstOf (listOrder listed (leastWanted edition) height bad (BadWantedList 0) (BadWantedList bad) ++ roomFaults edition «buffer_length») ⌝ }
+    ensures { λ r. ⌜ outcome r ≡ firstOf (listOrder listed (leastWanted edition) height bad (23 at 0) (23 at bad) ++ roomFaults edition «buffer_length») ⌝ }
 {
     let by_count = Refusal::BadWantedList { position: 0 };
     let by_entry = Refusal::BadWantedList { position: bad };
@@ -84,8 +83,8 @@ fn plan_test(
     wanted: &[u8],
     buffer_length: usize,
 ) -> Verdict
-    requires { ⌜ (reading .verdict ≡ Fine → WithinLimits (reading .code)) ⌝ }
-    ensures { λ r. ⌜ r ≡ andThen (reading .verdict) (planningFaults (reading .code .layout) (record { edition = edition; disk = disk; wanted = now (wanted .entry) }) «buffer_length») ⌝ }
+    requires { ⌜ (outcome (reading .verdict) ≡ Fine → WithinLimits (reading .code)) ⌝ }
+    ensures { λ r. ⌜ outcome r ≡ andThen (outcome (reading .verdict)) (planningFaults (reading .code .layout) (record { edition = edition; disk = disk; wanted = now (wanted .entry) }) «buffer_length») ⌝ }
 {
     let read = reading.verdict;
     let code = reading.code;
@@ -104,7 +103,7 @@ fn plan_test(
 // Elimination over the surviving rows. The sheet is written only when every wanted row is known to have its subset.
 fn plan_code(code: Code, edition: usize, disk: usize, list: &[u8], buffer: &mut [u8]) -> Planned
     requires { ⌜ Workable code (record { edition = edition; disk = disk; wanted = now list }) (length (now buffer)) ⌝ }
-    ensures { λ r. ⌜ Worked code (record { edition = edition; disk = disk; wanted = now (list .entry) }) (now (buffer .entry)) (now (buffer .exit)) r ⌝ }
+    ensures { λ r. ⌜ Worked code (record { edition = edition; disk = disk; wanted = now (list .entry) }) (now (buffer .entry)) (now (buffer .exit)) (asPlanned r) ⌝ }
 {
     let layout = code.layout;
     let rows = code.rows;
@@ -148,7 +147,7 @@ fn plan_asked(
     buffer: &mut [u8],
 ) -> Planned
     requires { ⌜ EditionFits edition (now wanted) ⌝ }
-    ensures { λ r. ⌜ Promised (now (sheet .entry)) (record { edition = edition; disk = disk; wanted = now (wanted .entry) }) (now (buffer .entry)) (now (buffer .exit)) r ⌝ }
+    ensures { λ r. ⌜ Promised (now (sheet .entry)) (record { edition = edition; disk = disk; wanted = now (wanted .entry) }) (now (buffer .entry)) (now (buffer .exit)) (asPlanned r) ⌝ }
 {
     let reading = read_code(sheet);
     let code = reading.code;
@@ -161,20 +160,20 @@ fn plan_asked(
 
 // Plans the rebuild of a disk: an edition 1 plan sheet at the front of the buffer, or a pattern and nothing written. A refusal changes no byte.
 pub fn plan(sheet: &[u8], disk: usize, buffer: &mut [u8]) -> Planned
-    ensures refusal { λ r. ⌜ verdictOf r ≡ planningVerdict (now (sheet .entry)) (wholeDisk disk) (length (now (buffer .entry))) ⌝ }
-    ensures buffer { λ r. ⌜ now (buffer .exit) ≡ replacedFront (bytesWritten r) (now (buffer .exit)) (now (buffer .entry)) ⌝ }
-    ensures demand3 { λ r. ⌜ Demand3 (now (sheet .entry)) (wholeDisk disk) (now (buffer .exit)) r ⌝ }
-    ensures exactly { λ r. ⌜ PlansWhereAnyCould (now (sheet .entry)) (wholeDisk disk) (length (now (buffer .entry))) r ⌝ }
+    ensures refusal { λ r. ⌜ outcomeOf (asPlanned r) ≡ planningVerdict (now (sheet .entry)) (wholeDisk disk) (length (now (buffer .entry))) ⌝ }
+    ensures buffer { λ r. ⌜ now (buffer .exit) ≡ replacedFront (bytesWritten (asPlanned r)) (now (buffer .exit)) (now (buffer .entry)) ⌝ }
+    ensures demand3 { λ r. ⌜ Demand3 (now (sheet .entry)) (wholeDisk disk) (now (buffer .exit)) (asPlanned r) ⌝ }
+    ensures exactly { λ r. ⌜ PlansWhereAnyCould (now (sheet .entry)) (wholeDisk disk) (length (now (buffer .entry))) (asPlanned r) ⌝ }
 {
     plan_asked(sheet, 1, disk, &sheet[0..0], buffer)
 }
 
 // Plans the rebuild of the listed symbols of a disk alone: an edition 2 plan sheet that wants exactly these, or a pattern. A refusal changes no byte.
 pub fn plan_wanted(sheet: &[u8], disk: usize, wanted: &[u8], buffer: &mut [u8]) -> Planned
-    ensures refusal { λ r. ⌜ verdictOf r ≡ planningVerdict (now (sheet .entry)) (listedOn disk (now (wanted .entry))) (length (now (buffer .entry))) ⌝ }
-    ensures buffer { λ r. ⌜ now (buffer .exit) ≡ replacedFront (bytesWritten r) (now (buffer .exit)) (now (buffer .entry)) ⌝ }
-    ensures demand3 { λ r. ⌜ Demand3 (now (sheet .entry)) (listedOn disk (now (wanted .entry))) (now (buffer .exit)) r ⌝ }
-    ensures exactly { λ r. ⌜ PlansWhereAnyCould (now (sheet .entry)) (listedOn disk (now (wanted .entry))) (length (now (buffer .entry))) r ⌝ }
+    ensures refusal { λ r. ⌜ outcomeOf (asPlanned r) ≡ planningVerdict (now (sheet .entry)) (listedOn disk (now (wanted .entry))) (length (now (buffer .entry))) ⌝ }
+    ensures buffer { λ r. ⌜ now (buffer .exit) ≡ replacedFront (bytesWritten (asPlanned r)) (now (buffer .exit)) (now (buffer .entry)) ⌝ }
+    ensures demand3 { λ r. ⌜ Demand3 (now (sheet .entry)) (listedOn disk (now (wanted .entry))) (now (buffer .exit)) (asPlanned r) ⌝ }
+    ensures exactly { λ r. ⌜ PlansWhereAnyCould (now (sheet .entry)) (listedOn disk (now (wanted .entry))) (length (now (buffer .entry))) (asPlanned r) ⌝ }
 {
     plan_asked(sheet, 2, disk, wanted, buffer)
 }

@@ -26,10 +26,8 @@ use Rattle.gf2.proofs.SearchLaws.{firstFrom-none, none-if-firstFrom-behind}
 use Rattle.gf2.proofs.StripeLaws.{wellFormed-names-below, accepted-restores-stripes, accepted-gives-stripe-back, accepted-depends-on-known, runOnStripe-keeps-unwritable, accepted-if-restores-stripes, restores-means-filled}
 use Rattle.lists.specs.Lists.{GoodList, listed}
 use Rattle.lists.proofs.ListLaws.{good-if-no-fault, no-fault-if-good, listed-passes}
-use Rattle.refusals.specs.Orders.{firstOf, ifFine}
-use Rattle.refusals.specs.declared.Refusal.the-variants.{BadWantedList}
-use Rattle.refusals.specs.declared.Verdict.{Verdict}
-use Rattle.refusals.specs.declared.Verdict.the-variants.{Fine, Refused}
+use Rattle.refusals.specs.Orders.{firstOf, ifFine, Outcome, Fine, Refused}
+use Rattle.refusals.specs.Refusals.{_at_}
 use Rattle.refusals.proofs.OrderLaws.{fine-means-none-holds, none-holds-means-fine, none-holds-join, none-holds-first, none-holds-second, refused-is-not-fine}
 use Rattle.plans.specs.Plans.{SheetStep, PlanHead, Plan, stepOf, stepsOf}
 use Rattle.plans.specs.Judgement.{lost, survives, headFaults, wantedOf, keptOf, leastWanted, wantedFaults, malformed, stepFaults, stepsVerdict, trueReadCount, neverFilled, endsWrong, lowestWanted, endFaults, SetsWithin, judgement, bodyVerdict, planVerdict}
@@ -40,13 +38,13 @@ use Rattle.plans.proofs.StepLaws.{target-stepOf}
 -- Verdicts joined
 
 -- A fine verdict behind a verdict means that both are fine
-pub both-fine : (first second : Verdict) → ifFine first second first ≡ Fine → (first ≡ Fine) × (second ≡ Fine)
+pub both-fine : (first second : Outcome) → ifFine first second first ≡ Fine → (first ≡ Fine) × (second ≡ Fine)
 both-fine Fine second e = (refl, e)
 both-fine (Refused refusal) second e = absurd (refused-is-not-fine e)
 
 -- Two fine verdicts make a fine one
-pub fine-if-both : {first second : Verdict} → first ≡ Fine → second ≡ Fine → ifFine first second first ≡ Fine
-fine-if-both {first} {second} e f = ap (λ (v : Verdict). ifFine v second v) e ∙ f
+pub fine-if-both : {first second : Outcome} → first ≡ Fine → second ≡ Fine → ifFine first second first ≡ Fine
+fine-if-both {first} {second} e f = ap (λ (v : Outcome). ifFine v second v) e ∙ f
 
 -- Equal numbers pass a test that they be so
 same-passes : {a b : ℕ} → a ≡ b → not (eqb a b) ≡ false
@@ -336,7 +334,7 @@ module _ (code : Code) (within : WithinLimits code) (disk : ℕ) (disk-below : d
         let lists = wantedFaults (code .layout) disk (plan .head .edition) (plan .wanted) in
         let none = fine-means-none-holds Fine (heads ++ lists) e .1 in (
           head-fits-if-fine code disk (plan .head) (none-holds-means-fine heads (none-holds-first heads lists none)),
-          good-if-no-fault _ _ (lost (code .layout) disk) (plan .wanted) BadWantedList (none-holds-second heads lists none),
+          good-if-no-fault _ _ (lost (code .layout) disk) (plan .wanted) (λ position. 23 at position) (none-holds-second heads lists none),
         )
 
     -- and the other way round
@@ -347,7 +345,7 @@ module _ (code : Code) (within : WithinLimits code) (disk : ℕ) (disk-below : d
         let lists = wantedFaults (code .layout) disk (plan .head .edition) (plan .wanted) in
         none-holds-means-fine (heads ++ lists)
         (none-holds-join heads lists (fine-means-none-holds Fine heads (head-fine-if-fits code disk (plan .head) fits) .1)
-        (no-fault-if-good _ _ (lost (code .layout) disk) (plan .wanted) BadWantedList good))
+        (no-fault-if-good _ _ (lost (code .layout) disk) (plan .wanted) (λ position. 23 at position) good))
 
     -- A plan whose head fits, whose wanted list is good, whose steps are formed, which gf2 accepts and whose stated count is true deserves acceptance
     pub deserves-if-rules-kept : HeadFits code disk (plan .head) → WantedGood code disk plan → EachFormed (symbols code) (plan .steps) → AcceptedFor code disk plan

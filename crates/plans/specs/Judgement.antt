@@ -15,12 +15,8 @@ use Rattle.gf2.specs.Plans.{run, PlacesBelow, extend, ready, filledAfter}
 use Rattle.gf2.specs.declared.Step.{Step}
 use Rattle.gf2.specs.declared.Step.the-variants.{Clear, Copy, Add}
 use Rattle.lists.specs.Lists.{listFaults, listed}
-use Rattle.refusals.specs.Orders.{Fault, _gets_, firstOf, ifFine}
-use Rattle.refusals.specs.declared.Refusal.the-variants.{PlanSheetCount, PlanSheetEdition, PlanOfAnotherCode, PlanOfAnotherDisk, MalformedStep, TargetNotWanted, UnfilledPlaceUsed, NeverFilled, EndsWrong, WrongReadCount, BadWantedList}
-use Rattle.refusals.specs.declared.Verdict.{Verdict}
-use Rattle.plans.specs.declared.steps.StepReading.{StepReading}
-use Rattle.plans.specs.declared.steps.StepReading.the-variants as Readings
-use Rattle.refusals.specs.declared.Verdict.the-variants as Verdicts
+use Rattle.refusals.specs.Orders.{Fault, _gets_, firstOf, ifFine, Outcome, Fine, Answer, answering}
+use Rattle.refusals.specs.Refusals.{_at_}
 
 -- ------------------------------------------------------------------
 -- Lost and surviving symbols
@@ -46,12 +42,12 @@ pub record DiskWithin (layout : Layout) (disk : ℕ) : Type 0 where
 -- First count (13), 14 (editions 1 and 2 are allowed), 15, 16
 abbrev pub headFaults : Layout → ℕ → ℕ → PlanHead → List Fault
 headFaults layout dataSymbols disk head =
-    (not (eqb (head .count) 6) gets PlanSheetCount)
-    ∷ (not (eqb (head .edition) 1 || eqb (head .edition) 2) gets PlanSheetEdition)
-    ∷ (not (eqb (head .disks) (layout .disks)) gets PlanOfAnotherCode)
-    ∷ (not (eqb (head .height) (layout .height)) gets PlanOfAnotherCode)
-    ∷ (not (eqb (head .data_symbols) dataSymbols) gets PlanOfAnotherCode)
-    ∷ (not (eqb (head .disk) disk) gets PlanOfAnotherDisk)
+    (not (eqb (head .count) 6) gets 13 at 0)
+    ∷ (not (eqb (head .edition) 1 || eqb (head .edition) 2) gets 14 at 0)
+    ∷ (not (eqb (head .disks) (layout .disks)) gets 15 at 0)
+    ∷ (not (eqb (head .height) (layout .height)) gets 15 at 0)
+    ∷ (not (eqb (head .data_symbols) dataSymbols) gets 15 at 0)
+    ∷ (not (eqb (head .disk) disk) gets 16 at 0)
     ∷ []
 
 -- Wanted are the symbols of edition 2's list; an edition 1 sheet wants its whole disk
@@ -68,7 +64,7 @@ leastWanted edition = cond (eqb edition 2) 1 0
 
 -- 23: a count of 0 or above r, then the first entry that doesn't rise or isn't on the failed disk. Edition 1 has no entries
 abbrev pub wantedFaults : Layout → ℕ → ℕ → List ℕ → List Fault
-wantedFaults layout disk edition list = listFaults (leastWanted edition) (heightOf layout disk) (lost layout disk) list BadWantedList
+wantedFaults layout disk edition list = listFaults (leastWanted edition) (heightOf layout disk) (lost layout disk) list (λ position. 23 at position)
 
 -- ------------------------------------------------------------------
 -- The steps
@@ -81,22 +77,18 @@ malformed count s =
 -- In each step 17, 18 (a target that isn't wanted), 19 (an unfilled place is used)
 abbrev pub stepFaults : ℕ → (ℕ → Bool) → (ℕ → Bool) → ℕ → SheetStep → List Fault
 stepFaults count wanted known number s =
-    (malformed count s gets MalformedStep number)
-    ∷ (not (wanted (s .place)) gets TargetNotWanted number)
-    ∷ (not (ready (stepOf s) known) gets UnfilledPlaceUsed number)
+    (malformed count s gets 17 at number)
+    ∷ (not (wanted (s .place)) gets 18 at number)
+    ∷ (not (ready (stepOf s) known) gets 19 at number)
     ∷ []
 
 -- A step's reading: the decoded step, or its first refusal
-abbrev pub readingOf : Verdict → Step → StepReading
-readingOf Verdicts.Fine step = Readings.Step step
-readingOf (Verdicts.Refused refusal) step = Readings.Refused refusal
-
-unfoldable pub stepReading : ℕ → (ℕ → Bool) → (ℕ → Bool) → ℕ → SheetStep → StepReading
-stepReading count wanted known number s = readingOf (firstOf (stepFaults count wanted known number s)) (stepOf s)
+unfoldable pub stepReading : ℕ → (ℕ → Bool) → (ℕ → Bool) → ℕ → SheetStep → Answer Step
+stepReading count wanted known number s = answering (firstOf (stepFaults count wanted known number s)) (stepOf s)
 
 -- Steps in order; the first faulty step ends the check, and its number is the place
-unfoldable pub stepsVerdict : ℕ → (ℕ → Bool) → (ℕ → Bool) → ℕ → List SheetStep → Verdict
-stepsVerdict count wanted known number [] = Verdicts.Fine
+unfoldable pub stepsVerdict : ℕ → (ℕ → Bool) → (ℕ → Bool) → ℕ → List SheetStep → Outcome
+stepsVerdict count wanted known number [] = Fine
 stepsVerdict count wanted known number (s ∷ steps) =
     let here = firstOf (stepFaults count wanted known number s) in
     ifFine here (stepsVerdict count wanted (extend known (s .place)) (suc number) steps) here
@@ -139,9 +131,9 @@ lowestWanted count wanted test = firstFrom (λ s. wanted s && test s) 0 count
 -- 20 over all wanted symbols, 21 over all of them, 22. A symbol's place counts from the origin
 abbrev pub endOrder : ℕ → ℕ → ℕ → ℕ → ℕ → ℕ → List Fault
 endOrder count origin unfilled wrong stated trueCount =
-    (ltb unfilled count gets NeverFilled (unfilled - origin))
-    ∷ (ltb wrong count gets EndsWrong (wrong - origin))
-    ∷ (not (eqb stated trueCount) gets WrongReadCount trueCount)
+    (ltb unfilled count gets 20 at unfilled - origin)
+    ∷ (ltb wrong count gets 21 at wrong - origin)
+    ∷ (not (eqb stated trueCount) gets 22 at trueCount)
     ∷ []
 
 abbrev pub endFaults : List ℕ → ℕ → (ℕ → Bool) → (ℕ → Bool) → ℕ → List Step → ℕ → List Fault
@@ -161,19 +153,19 @@ pub record SetsWithin (count : ℕ) (survives wanted : ℕ → Bool) (origin : �
   pub origin-to : origin ≤ count
 
 -- What follows the head: the steps, then the end. Of `count` symbols some survive and some are wanted
-unfoldable pub judgement : List ℕ → ℕ → (ℕ → Bool) → (ℕ → Bool) → ℕ → List SheetStep → ℕ → Verdict
+unfoldable pub judgement : List ℕ → ℕ → (ℕ → Bool) → (ℕ → Bool) → ℕ → List SheetStep → ℕ → Outcome
 judgement rows count survives wanted origin steps stated =
     let ran = stepsVerdict count wanted survives 0 steps in
     ifFine ran (firstOf (endFaults rows count survives wanted origin (map stepOf steps) stated)) ran
 
 -- What follows the head of a plan, judged by the sets of its disk and its list; places are rows of the disk
-unfoldable pub bodyVerdict : Code → ℕ → Plan → Verdict
+unfoldable pub bodyVerdict : Code → ℕ → Plan → Outcome
 bodyVerdict code disk plan =
     let layout = code .layout in
     judgement (code .rows) (symbolsOf layout) (survives layout disk) (wantedOf layout disk (plan .head .edition) (plan .wanted)) (firstSymbol layout disk) (plan .steps) (plan .head .reads)
 
 -- Every rule of the check, the sheet's length and the step limit left aside: the head, 23, the steps and the end
-unfoldable pub planVerdict : Code → ℕ → Plan → Verdict
+unfoldable pub planVerdict : Code → ℕ → Plan → Outcome
 planVerdict code disk plan =
     let layout = code .layout in
     let head = firstOf (headFaults layout (code .data_symbols) disk (plan .head) ++ wantedFaults layout disk (plan .head .edition) (plan .wanted)) in

@@ -7,7 +7,7 @@ use Rattle.plans.specs.Demand2.{Deserves}
 use Rattle.plans.specs.Judgement.{planVerdict}
 use Rattle.plans.specs.Plans.{planIn}
 use Rattle.plans.proofs.JudgementLaws.{length-matrix, fine-if-deserves, gives-stripe-back-if-fine, depends-on-survivors-if-fine, keeps-kept-if-fine, keeps-length-if-fine}
-use Rattle.refusals.specs.declared.Verdict.the-variants.{Fine}
+use Rattle.refusals.specs.Orders.{Fine}
 use Rattle.codes.specs.Codes.{symbols, matrix, WithinLimits}
 use Rattle.codes.specs.declared.Code.{Code}
 use Rattle.rebuild.specs.Rebuild.{rebuilt, Restored}

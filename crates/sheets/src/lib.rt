@@ -1,13 +1,12 @@
 // The code sheet, read: refusals 1 to 6 in their order, and the code by value.
 ghost use mathlib.Core.Path.{_≡_};
-ghost use Prim.Native.Nat.{ℕ, _+_, _*_, _≤_, _<_};
+ghost use Prim.Native.Nat.{_+_, _*_, _≤_, _<_};
 ghost use lib.ListN.{length, getD, take, drop};
 ghost use Rattle.codes.specs.Codes.{rowsOf, noCode, WithinLimits};
-ghost use Rattle.refusals.specs.Orders.{firstOf, andThen};
-ghost use Rattle.refusals.specs.declared.Verdict.the-variants.{Fine};
+ghost use Rattle.refusals.specs.Orders.{Fine, outcome, firstOf, andThen};
 ghost use Rattle.sheets.specs.Bytes.{lowFirst};
 ghost use Rattle.sheets.specs.CodeSheets.{rowIn};
-ghost use Rattle.sheets.specs.CodeReading.{limitFaults, headFaults, firstStray, reading};
+ghost use Rattle.sheets.specs.CodeReading.{limitFaults, headFaults, firstStray, reading, asRead};
 use codes::Code;
 use codes::Layout;
 use gf2::BitSet;
@@ -33,7 +32,7 @@ pub fn byte_at(sheet: &[u8], at: usize) -> usize
 // The limits of an array, behind the verdict so far.
 fn limit_test(verdict: Verdict, disks: usize, height: usize, data_symbols: usize) -> Verdict
     requires { ⌜ (disks < 256) × (height < 256) ⌝ }
-    ensures { λ r. ⌜ r ≡ andThen verdict (limitFaults disks height data_symbols) ⌝ }
+    ensures { λ r. ⌜ outcome r ≡ andThen (outcome verdict) (limitFaults disks height data_symbols) ⌝ }
 {
     verdict
         .or_if(disks < 2, Refusal::CodeBeyondLimit)
@@ -56,7 +55,7 @@ fn head_verdict(
     symbols: usize,
 ) -> Verdict
     requires { ⌜ (disks < 256) × (height < 256) × (symbols < 256) ⌝ }
-    ensures { λ r. ⌜ r ≡ firstOf (headFaults size count edition disks height data_symbols symbols) ⌝ }
+    ensures { λ r. ⌜ outcome r ≡ firstOf (headFaults size count edition disks height data_symbols symbols) ⌝ }
 {
     let first = Verdict::Fine
         .or_if(size < 6, Refusal::CodeSheetTooShort)
@@ -147,8 +146,8 @@ fn first_stray(rows: [BitSet; 64], symbols: usize, data_symbols: usize) -> usize
 
 // Reads a code sheet, of any bytes and any length: its code, or the first refusal in document 01's order.
 pub fn read_code(sheet: &[u8]) -> Reading
-    ensures answer { λ r. ⌜ r ≡ reading (now (sheet .entry)) ⌝ }
-    ensures limits { λ r. ⌜ (r .verdict ≡ Fine → WithinLimits (r .code)) ⌝ }
+    ensures answer { λ r. ⌜ asRead r ≡ reading (now (sheet .entry)) ⌝ }
+    ensures limits { λ r. ⌜ (outcome (r .verdict) ≡ Fine → WithinLimits (r .code)) ⌝ }
 {
     let disks = byte_at(sheet, 2);
     let height = byte_at(sheet, 3);

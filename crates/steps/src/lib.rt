@@ -6,7 +6,8 @@ ghost use Rattle.gf2.specs.BitSets.{has};
 ghost use Rattle.gf2.specs.Plans.{target, ready, NamesBelow};
 ghost use Rattle.plans.specs.Plans.{stepAt, sheetSteps};
 ghost use Rattle.plans.specs.Judgement.{malformed, stepReading};
-ghost use Rattle.plans.specs.Progress.{sourceOf, valueOf, verdictOf, Progressed};
+ghost use Rattle.plans.specs.Progress.{sourceOf, valueOf, asStep, Progressed};
+ghost use Rattle.refusals.specs.Orders.{outcome, outcomeOf};
 use gf2::BitSet;
 use gf2::Step;
 use gf2::has;
@@ -60,7 +61,7 @@ fn judge_step(
     known: BitSet,
 ) -> StepReading
     requires { ⌜ symbols ≤ 64 ⌝ }
-    ensures { λ r. ⌜ r ≡ stepReading symbols (has wanted) (has known) number «sheet_step» ⌝ }
+    ensures { λ r. ⌜ asStep r ≡ stepReading symbols (has wanted) (has known) number «sheet_step» ⌝ }
 {
     if malformed(sheet_step, symbols) {
         return StepReading::Refused(Refusal::MalformedStep { step: number });
@@ -84,14 +85,14 @@ fn read_step(
     known: BitSet,
 ) -> StepReading
     requires { ⌜ (symbols ≤ 64) × (number < 1024) ⌝ }
-    ensures { λ r. ⌜ r ≡ stepReading symbols (has wanted) (has known) number (stepAt (drop (3 * number) (now (steps .entry)))) ⌝ }
+    ensures { λ r. ⌜ asStep r ≡ stepReading symbols (has wanted) (has known) number (stepAt (drop (3 * number) (now (steps .entry)))) ⌝ }
 {
     judge_step(step_at(steps, number), number, symbols, wanted, known)
 }
 
 // The verdict on a step that was read.
 fn verdict_of(reading: StepReading) -> Verdict
-    ensures { λ r. ⌜ r ≡ verdictOf reading ⌝ }
+    ensures { λ r. ⌜ outcome r ≡ outcomeOf (asStep reading) ⌝ }
 {
     match reading {
         StepReading::Step(_) => Verdict::Fine,

@@ -6,7 +6,7 @@ ghost use lib.ListN.{length};
 ghost use Rattle.texts.specs.Decimals.{decimal};
 ghost use Rattle.texts.specs.Lines.{labelled, codeLine, diskLine, acceptedLines, refusalLine};
 ghost use Rattle.texts.specs.Texts.{HasRoom, Extended};
-ghost use Rattle.refusals.specs.Refusals.{numberOf, placeOf};
+ghost use Rattle.refusals.specs.Refusals.{numbered};
 use refusals::Refusal;
 
 // A buffer, and how many of its bytes are text.
@@ -115,7 +115,7 @@ impl Text {
 // The line of a refusal: its number and its place.
 pub fn push_refusal(text: Text, refusal: Refusal) -> Text
     requires { ⌜ HasRoom text 53 ⌝ }
-    ensures { λ r. ⌜ Extended text 53 (refusalLine (numberOf refusal) (placeOf refusal)) r ⌝ }
+    ensures { λ r. ⌜ Extended text 53 (refusalLine (numbered refusal .number) (numbered refusal .place)) r ⌝ }
 {
     text.push_refusal(refusal.number() as usize, refusal.place())
 }

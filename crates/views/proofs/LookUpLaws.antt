@@ -12,13 +12,10 @@ use Rattle.codes.specs.Layouts.{symbolsOf, firstSymbol, heightOf, diskOf, onDis
 use Rattle.codes.specs.Lengths.{lengthFault}
 use Rattle.gf2.proofs.SymbolLaws.{symbol-ends-within}
 use Rattle.gf2.specs.Stripes.{symbol}
-use Rattle.refusals.specs.Orders.{_gets_, andThen, ifFine}
-use Rattle.refusals.specs.declared.Refusal.{Refusal}
-use Rattle.refusals.specs.declared.Refusal.the-variants.{SpareStripLength, NoSuchSymbol}
-use Rattle.refusals.specs.declared.Verdict.{Verdict}
-use Rattle.refusals.specs.declared.Verdict.the-variants.{Fine, Refused}
+use Rattle.refusals.specs.Orders.{_gets_, andThen, ifFine, Outcome, Fine, Refused}
+use Rattle.refusals.specs.Refusals.{Numbered, _at_}
 use Rattle.refusals.proofs.OrderLaws.{fine-means-none-holds, refused-is-not-fine}
-use Rattle.sheets.specs.declared.Reading.{Reading}
+use Rattle.sheets.specs.CodeReading.{CodeRead}
 use Rattle.views.proofs.ReadLaws.{ReadFrom}
 use Rattle.views.proofs.StripLaws.{StripFits, fine-strip-fits}
 use Rattle.views.specs.Places.{sliceOf, nowhere, symbolPart, symbolPlace, Shows}
@@ -27,19 +24,19 @@ use Rattle.views.specs.declared.Part.{Part}
 use lib.Dec.{leb, eqb}
 
 -- What a fine verdict says: the strip fits, the spare strip is whole and the symbol is one of the array's
-pub record LookUpFits (read : Reading) (disk size stripeBytes spareBytes wanted : ℕ) : Type 0 where
+pub record LookUpFits (read : CodeRead) (disk size stripeBytes spareBytes wanted : ℕ) : Type 0 where
   pub strip : StripFits read disk size stripeBytes
   pub spare-whole : spareBytes ≡ heightOf (read .code .layout) disk * size
   pub wanted-below : wanted < symbolsOf (read .code .layout)
 
 -- Where the verdict is fine, that holds
-pub fine-look-up-fits : (sheet : List ℕ) (read : Reading) → ReadFrom sheet read → (disk size stripeBytes spareBytes wanted : ℕ) {answer : Verdict}
+pub fine-look-up-fits : (sheet : List ℕ) (read : CodeRead) → ReadFrom sheet read → (disk size stripeBytes spareBytes wanted : ℕ) {answer : Outcome}
     → answer ≡ andThen (read .verdict) (lookUpFaults (read .code .layout) disk size stripeBytes spareBytes wanted) → answer ≡ Fine
     → LookUpFits read disk size stripeBytes spareBytes wanted
 fine-look-up-fits sheet read from disk size stripeBytes spareBytes wanted tested told =
     let none = fine-means-none-holds
     (andThen (read .verdict) (stripFaults (read .code .layout) disk size stripeBytes))
-    (lengthFault spareBytes (heightOf (read .code .layout) disk) size SpareStripLength ∷ (leb (symbolsOf (read .code .layout)) wanted gets NoSuchSymbol) ∷ [])
+    (lengthFault spareBytes (heightOf (read .code .layout) disk) size (35 at 0) ∷ (leb (symbolsOf (read .code .layout)) wanted gets 38 at 0) ∷ [])
     (sym tested ∙ told) in
     record {
       strip = fine-strip-fits sheet read from disk size stripeBytes refl (none .0);
@@ -47,7 +44,7 @@ fine-look-up-fits sheet read from disk size stripeBytes spareBytes wanted tested
       wanted-below = leb-false (symbolsOf (read .code .layout)) wanted (none .1 .1 .0);
     }
 
-module _ {read : Reading} {disk size stripeBytes spareBytes wanted : ℕ} (fits : LookUpFits read disk size stripeBytes spareBytes wanted) where
+module _ {read : CodeRead} {disk size stripeBytes spareBytes wanted : ℕ} (fits : LookUpFits read disk size stripeBytes spareBytes wanted) where
   -- A symbol of the stripe ends within it
   pub survivor-ends-within : (wanted + 1) * size ≤ stripeBytes
   survivor-ends-within = omega (arith, symbol-ends-within wanted (symbolsOf (read .code .layout)) size (fits .wanted-below))
@@ -72,34 +69,34 @@ module _ {read : Reading} {disk size stripeBytes spareBytes wanted : ℕ} (fits 
       let between = on-disk-between (read .code .layout) disk wanted (on-disk-as-found e (eq-eqb place disk f)) in
       omega (arith, symbol-ends-within (wanted - first) (heightOf (read .code .layout) disk) size (omega arith))
 
-module _ (sheet stripe spare : List ℕ) (disk size wanted : ℕ) (read : Reading) (from : ReadFrom sheet read) where
+module _ (sheet stripe spare : List ℕ) (disk size wanted : ℕ) (read : CodeRead) (from : ReadFrom sheet read) where
   -- The verdict is the definition's
-  pub look-up-verdict-is : {answer : Verdict}
+  pub look-up-verdict-is : {answer : Outcome}
       → answer ≡ andThen (read .verdict) (lookUpFaults (read .code .layout) disk size (length stripe) (length spare) wanted)
       → answer ≡ lookUpVerdict sheet disk size (length stripe) (length spare) wanted
   unfolding lookUpVerdict
   look-up-verdict-is e =
       e
-      ∙ ap (λ (r : Reading). andThen (r .verdict) (lookUpFaults (r .code .layout) disk size (length stripe) (length spare) wanted)) (from .0)
+      ∙ ap (λ (r : CodeRead). andThen (r .verdict) (lookUpFaults (r .code .layout) disk size (length stripe) (length spare) wanted)) (from .0)
 
   module _
-      (answer : Verdict)
+      (answer : Outcome)
       (tested : answer ≡ andThen (read .verdict) (lookUpFaults (read .code .layout) disk size (length stripe) (length spare) wanted))
     where
       -- What is shown, by the verdict
-      shown-by-verdict : {told : Verdict} → answer ≡ told
+      shown-by-verdict : {told : Outcome} → answer ≡ told
           → ifFine told (symbolOf (read .code .layout) disk size stripe spare wanted) [] ≡ symbolShown sheet disk size stripe spare wanted
       unfolding symbolShown
       shown-by-verdict told =
-          ap₂ (λ (v : Verdict) (r : Reading). ifFine v (symbolOf (r .code .layout) disk size stripe spare wanted) [])
+          ap₂ (λ (v : Outcome) (r : CodeRead). ifFine v (symbolOf (r .code .layout) disk size stripe spare wanted) [])
           (sym told ∙ look-up-verdict-is tested) (from .0)
 
       -- Where it lies, by the verdict
-      place-by-verdict : {told : Verdict} → answer ≡ told
+      place-by-verdict : {told : Outcome} → answer ≡ told
           → ifFine told (symbolPart (read .code .layout) disk size wanted) nowhere ≡ symbolPlace sheet disk size (length stripe) (length spare) wanted
       unfolding symbolPlace
       place-by-verdict told =
-          ap₂ (λ (v : Verdict) (r : Reading). ifFine v (symbolPart (r .code .layout) disk size wanted) nowhere)
+          ap₂ (λ (v : Outcome) (r : CodeRead). ifFine v (symbolPart (r .code .layout) disk size wanted) nowhere)
           (sym told ∙ look-up-verdict-is tested) (from .0)
 
       -- A part is where the symbol lies, and shows it
@@ -109,7 +106,7 @@ module _ (sheet stripe spare : List ℕ) (disk size wanted : ℕ) (read : Readin
           × Shows part (sliceOf part stripe spare) (symbolShown sheet disk size stripe spare wanted) (lookUpVerdict sheet disk size (length stripe) (length spare) wanted)
 
       -- Refused: the part of no bytes
-      pub look-up-refused : {part : Part} {refusal : Refusal} → part ≡ nowhere → answer ≡ Refused refusal → Placed part
+      pub look-up-refused : {part : Part} {refusal : Numbered} → part ≡ nowhere → answer ≡ Refused refusal → Placed part
       look-up-refused e told =
           let shows : Shows nowhere stripe (symbolShown sheet disk size stripe spare wanted) (lookUpVerdict sheet disk size (length stripe) (length spare) wanted) = record {
             within = omega arith;

@@ -6,13 +6,12 @@ use Prim.Native.Nat.{ℕ, _+_, _-_, _<_}
 use native.Mathlib.Omega.{arith}
 use lib.ListN.{length, take, drop}
 use borrow.Rule.Slice.PartAt.{part-count}
-use Rattle.refusals.specs.declared.Verdict.{Verdict}
-use Rattle.refusals.specs.declared.Verdict.the-variants.{Fine}
+use Rattle.refusals.specs.Orders.{Outcome, Fine}
 use Rattle.views.specs.Places.{sliceOf, Shows}
 use Rattle.views.specs.declared.Part.{Part}
 
 -- From its start to its end a part shows the bytes, and where nothing is refused there are some
-pub part-shown : {part : Part} {slice shown : List ℕ} {verdict : Verdict} → Shows part slice shown verdict
+pub part-shown : {part : Part} {slice shown : List ℕ} {verdict : Outcome} → Shows part slice shown verdict
     → (take (part .start + part .length - part .start) (drop (part .start) slice) ≡ shown)
     × (verdict ≡ Fine → 0 < length (take (part .start + part .length - part .start) (drop (part .start) slice)))
 part-shown {part} {slice} shows =
@@ -24,7 +23,7 @@ part-shown {part} {slice} shows =
     )
 
 -- A part that was found to lie in the spare strip, or in the stripe, shows the bytes there
-pub shows-there : (stripe spare : List ℕ) {part : Part} {shown : List ℕ} {verdict : Verdict} {lost : Bool} → part .in_spare ≡ lost
+pub shows-there : (stripe spare : List ℕ) {part : Part} {shown : List ℕ} {verdict : Outcome} {lost : Bool} → part .in_spare ≡ lost
     → Shows part (sliceOf part stripe spare) shown verdict → Shows part (cond lost spare stripe) shown verdict
 shows-there stripe spare {part} {shown} {verdict} e shows =
     subst (λ (lost : Bool). Shows part (cond lost spare stripe) shown verdict) e shows

@@ -10,19 +10,17 @@ use borrow.Author.Tests.{leb-false, ltb-false, not-false, eqb-true, eqb-false}
 use Rattle.codes.proofs.LayoutLaws.{strip-within, height-of-positive}
 use Rattle.codes.specs.Codes.{WithinLimits}
 use Rattle.codes.specs.Layouts.{symbolsOf, firstSymbol, heightOf}
-use Rattle.refusals.specs.Orders.{andThen, ifFine}
-use Rattle.refusals.specs.declared.Refusal.{Refusal}
-use Rattle.refusals.specs.declared.Verdict.{Verdict}
-use Rattle.refusals.specs.declared.Verdict.the-variants.{Fine, Refused}
+use Rattle.refusals.specs.Orders.{andThen, ifFine, Outcome, Fine, Refused}
+use Rattle.refusals.specs.Refusals.{Numbered}
 use Rattle.refusals.proofs.OrderLaws.{fine-means-none-holds, refused-is-not-fine}
-use Rattle.sheets.specs.declared.Reading.{Reading}
+use Rattle.sheets.specs.CodeReading.{CodeRead}
 use Rattle.views.proofs.ReadLaws.{ReadFrom}
 use Rattle.views.specs.Places.{nowhere, stripPart, stripPlace, Shows}
 use Rattle.views.specs.Views.{stripFaults, stripVerdict, stripOf, stripShown}
 use Rattle.views.specs.declared.Part.{Part}
 
 -- What a fine verdict says: there is a code, the disk is one of its array's, L is within its bounds and the stripe is whole
-pub record StripFits (read : Reading) (disk size stripeBytes : ℕ) : Type 0 where
+pub record StripFits (read : CodeRead) (disk size stripeBytes : ℕ) : Type 0 where
   pub limits : WithinLimits (read .code)
   pub disk-below : disk < read .code .layout .disks
   pub size-from : 0 < size
@@ -30,7 +28,7 @@ pub record StripFits (read : Reading) (disk size stripeBytes : ℕ) : Type 0 whe
   pub stripe-whole : stripeBytes ≡ symbolsOf (read .code .layout) * size
 
 -- Where the verdict is fine, that holds
-pub fine-strip-fits : (sheet : List ℕ) (read : Reading) → ReadFrom sheet read → (disk size stripeBytes : ℕ) {answer : Verdict}
+pub fine-strip-fits : (sheet : List ℕ) (read : CodeRead) → ReadFrom sheet read → (disk size stripeBytes : ℕ) {answer : Outcome}
     → answer ≡ andThen (read .verdict) (stripFaults (read .code .layout) disk size stripeBytes) → answer ≡ Fine
     → StripFits read disk size stripeBytes
 fine-strip-fits sheet read from disk size stripeBytes tested told =
@@ -44,36 +42,36 @@ fine-strip-fits sheet read from disk size stripeBytes tested told =
     }
 
 -- The strip of a disk ends within the stripe
-pub strip-ends-within : {read : Reading} {disk size stripeBytes first height : ℕ} → StripFits read disk size stripeBytes
+pub strip-ends-within : {read : CodeRead} {disk size stripeBytes first height : ℕ} → StripFits read disk size stripeBytes
     → first ≡ firstSymbol (read .code .layout) disk → height ≡ heightOf (read .code .layout) disk
     → first * size + height * size ≤ stripeBytes
 strip-ends-within {read} {disk} {size} {stripeBytes} {first} {height} fits e f =
     let within : first + height ≤ symbolsOf (read .code .layout) = omega (arith, strip-within (read .code .layout) disk (fits .disk-below)) in
     omega (arith, mul-le-mul-right {m = first + height} size within)
 
-module _ (sheet stripe : List ℕ) (disk size : ℕ) (read : Reading) (from : ReadFrom sheet read) where
+module _ (sheet stripe : List ℕ) (disk size : ℕ) (read : CodeRead) (from : ReadFrom sheet read) where
   -- The verdict is the definition's
-  pub strip-verdict-is : {answer : Verdict} → answer ≡ andThen (read .verdict) (stripFaults (read .code .layout) disk size (length stripe))
+  pub strip-verdict-is : {answer : Outcome} → answer ≡ andThen (read .verdict) (stripFaults (read .code .layout) disk size (length stripe))
       → answer ≡ stripVerdict sheet disk size (length stripe)
   unfolding stripVerdict
   strip-verdict-is e =
-      e ∙ ap (λ (r : Reading). andThen (r .verdict) (stripFaults (r .code .layout) disk size (length stripe))) (from .0)
+      e ∙ ap (λ (r : CodeRead). andThen (r .verdict) (stripFaults (r .code .layout) disk size (length stripe))) (from .0)
 
-  module _ (answer : Verdict) (tested : answer ≡ andThen (read .verdict) (stripFaults (read .code .layout) disk size (length stripe))) where
+  module _ (answer : Outcome) (tested : answer ≡ andThen (read .verdict) (stripFaults (read .code .layout) disk size (length stripe))) where
     -- What is shown, by the verdict
-    shown-by-verdict : {told : Verdict} → answer ≡ told
+    shown-by-verdict : {told : Outcome} → answer ≡ told
         → ifFine told (stripOf (read .code .layout) disk size stripe) [] ≡ stripShown sheet disk size stripe
     unfolding stripShown
     shown-by-verdict told =
-        ap₂ (λ (v : Verdict) (r : Reading). ifFine v (stripOf (r .code .layout) disk size stripe) [])
+        ap₂ (λ (v : Outcome) (r : CodeRead). ifFine v (stripOf (r .code .layout) disk size stripe) [])
         (sym told ∙ strip-verdict-is tested) (from .0)
 
     -- Where it lies, by the verdict
-    place-by-verdict : {told : Verdict} → answer ≡ told
+    place-by-verdict : {told : Outcome} → answer ≡ told
         → ifFine told (stripPart (read .code .layout) disk size) nowhere ≡ stripPlace sheet disk size (length stripe)
     unfolding stripPlace
     place-by-verdict told =
-        ap₂ (λ (v : Verdict) (r : Reading). ifFine v (stripPart (r .code .layout) disk size) nowhere) (sym told ∙ strip-verdict-is tested)
+        ap₂ (λ (v : Outcome) (r : CodeRead). ifFine v (stripPart (r .code .layout) disk size) nowhere) (sym told ∙ strip-verdict-is tested)
         (from .0)
 
     -- A part is where the strip lies, and shows it
@@ -83,7 +81,7 @@ module _ (sheet stripe : List ℕ) (disk size : ℕ) (read : Reading) (from : Re
         × Shows part stripe (stripShown sheet disk size stripe) (stripVerdict sheet disk size (length stripe))
 
     -- Refused: the part of no bytes
-    pub strip-refused : {part : Part} {refusal : Refusal} → part ≡ nowhere → answer ≡ Refused refusal → Placed part
+    pub strip-refused : {part : Part} {refusal : Numbered} → part ≡ nowhere → answer ≡ Refused refusal → Placed part
     strip-refused e told =
         let shows : Shows nowhere stripe (stripShown sheet disk size stripe) (stripVerdict sheet disk size (length stripe)) = record {
           within = omega arith;

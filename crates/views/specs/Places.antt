@@ -8,9 +8,7 @@ use Prim.Native.Nat.{ℕ, _+_, _-_, _*_, _≤_, _<_}
 use lib.ListN.{length, take, drop}
 use Rattle.codes.specs.Layouts.{firstSymbol, heightOf, onDisk}
 use Rattle.codes.specs.declared.Layout.{Layout}
-use Rattle.refusals.specs.Orders.{ifFine}
-use Rattle.refusals.specs.declared.Verdict.{Verdict}
-use Rattle.refusals.specs.declared.Verdict.the-variants.{Fine}
+use Rattle.refusals.specs.Orders.{ifFine, Outcome, Fine}
 use Rattle.views.specs.Views.{layoutOf, stripVerdict, lookUpVerdict}
 use Rattle.views.specs.declared.Part.{Part}
 
@@ -47,7 +45,7 @@ symbolPlace sheet disk size stripeBytes spareBytes wanted =
     ifFine (lookUpVerdict sheet disk size stripeBytes spareBytes wanted) (symbolPart (layoutOf sheet) disk size wanted) nowhere
 
 -- A part of a slice shows these bytes: it ends within the slice, covers them, and has bytes exactly if nothing is refused
-pub record Shows (part : Part) (slice shown : List ℕ) (verdict : Verdict) : Type 0 where
+pub record Shows (part : Part) (slice shown : List ℕ) (verdict : Outcome) : Type 0 where
   pub within : part .start + part .length ≤ length slice
   pub bytes : covered part slice ≡ shown
   pub exactly : (0 < part .length) ↔ (verdict ≡ Fine)

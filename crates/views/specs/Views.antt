@@ -8,9 +8,8 @@ use Rattle.codes.specs.Layouts.{symbolsOf, firstSymbol, heightOf, onDisk}
 use Rattle.codes.specs.Lengths.{symbolLengthFaults, lengthFault}
 use Rattle.codes.specs.declared.Layout.{Layout}
 use Rattle.gf2.specs.Stripes.{symbol}
-use Rattle.refusals.specs.Orders.{Fault, _gets_, andThen, ifFine}
-use Rattle.refusals.specs.declared.Refusal.the-variants.{NoSuchDisk, StripeLength, SpareStripLength, NoSuchSymbol}
-use Rattle.refusals.specs.declared.Verdict.{Verdict}
+use Rattle.refusals.specs.Orders.{Fault, _gets_, andThen, ifFine, Outcome}
+use Rattle.refusals.specs.Refusals.{_at_}
 use Rattle.sheets.specs.CodeReading.{reading}
 
 -- The layout of a code sheet that is not refused
@@ -23,13 +22,13 @@ layoutOf sheet = reading sheet .code .layout
 -- 7, 31, 32
 abbrev pub stripFaults : Layout → ℕ → ℕ → ℕ → List Fault
 stripFaults layout disk size stripeBytes =
-    (leb (layout .disks) disk gets NoSuchDisk)
+    (leb (layout .disks) disk gets 7 at 0)
     ∷ symbolLengthFaults size
-    ++ lengthFault stripeBytes (symbolsOf layout) size StripeLength
+    ++ lengthFault stripeBytes (symbolsOf layout) size (32 at 0)
     ∷ []
 
 -- Refusals in the order code sheet, 7, 31, 32
-unfoldable pub stripVerdict : List ℕ → ℕ → ℕ → ℕ → Verdict
+unfoldable pub stripVerdict : List ℕ → ℕ → ℕ → ℕ → Outcome
 stripVerdict sheet disk size stripeBytes = andThen (reading sheet .verdict) (stripFaults (layoutOf sheet) disk size stripeBytes)
 
 -- The strip of a disk as a part of the stripe: it begins at the disk's first symbol
@@ -48,12 +47,12 @@ stripShown sheet disk size stripe =
 abbrev pub lookUpFaults : Layout → ℕ → ℕ → ℕ → ℕ → ℕ → List Fault
 lookUpFaults layout disk size stripeBytes spareBytes wanted =
     stripFaults layout disk size stripeBytes
-    ++ lengthFault spareBytes (heightOf layout disk) size SpareStripLength
-    ∷ (leb (symbolsOf layout) wanted gets NoSuchSymbol)
+    ++ lengthFault spareBytes (heightOf layout disk) size (35 at 0)
+    ∷ (leb (symbolsOf layout) wanted gets 38 at 0)
     ∷ []
 
 -- Refusals in the order code sheet, 7, 31, 32, 35, 38
-unfoldable pub lookUpVerdict : List ℕ → ℕ → ℕ → ℕ → ℕ → ℕ → Verdict
+unfoldable pub lookUpVerdict : List ℕ → ℕ → ℕ → ℕ → ℕ → ℕ → Outcome
 lookUpVerdict sheet disk size stripeBytes spareBytes wanted =
     andThen (reading sheet .verdict) (lookUpFaults (layoutOf sheet) disk size stripeBytes spareBytes wanted)
 

@@ -2,8 +2,7 @@
 ghost use mathlib.Core.Path.{_≡_};
 ghost use Prim.Native.Nat.{_≤_, _<_};
 ghost use lib.ListN.{length};
-ghost use Rattle.refusals.specs.Orders.{andThen};
-ghost use Rattle.refusals.specs.declared.Verdict.the-variants.{Fine};
+ghost use Rattle.refusals.specs.Orders.{Fine, outcome, andThen};
 ghost use Rattle.views.specs.Views.{stripFaults, stripVerdict, stripShown, lookUpFaults, lookUpVerdict, symbolShown};
 ghost use Rattle.views.specs.Places.{nowhere, stripPlace, symbolPlace, sliceOf, Shows};
 use codes::Layout;
@@ -33,7 +32,7 @@ fn nowhere() -> Part
 // The order 7, 31, 32 behind the verdict on the code sheet.
 fn strip_test(read: Verdict, layout: Layout, disk: usize, size: usize, bytes: usize) -> Verdict
     requires { ⌜ (layout .disks ≤ 255) × (layout .height ≤ 255) ⌝ }
-    ensures { λ r. ⌜ r ≡ andThen read (stripFaults layout disk size bytes) ⌝ }
+    ensures { λ r. ⌜ outcome r ≡ andThen (outcome read) (stripFaults layout disk size bytes) ⌝ }
 {
     let symbols = layout.symbols();
     read.or_if(layout.disks <= disk, Refusal::NoSuchDisk)
@@ -53,7 +52,7 @@ fn look_up_test(
     symbol: usize,
 ) -> Verdict
     requires { ⌜ (layout .disks ≤ 255) × (layout .height ≤ 255) ⌝ }
-    ensures { λ r. ⌜ r ≡ andThen read (lookUpFaults layout disk size bytes spare symbol) ⌝ }
+    ensures { λ r. ⌜ outcome r ≡ andThen (outcome read) (lookUpFaults layout disk size bytes spare symbol) ⌝ }
 {
     let height = layout.height_of(disk);
     let symbols = layout.symbols();
@@ -64,7 +63,7 @@ fn look_up_test(
 
 // Twin of `strip`: why it shows nothing, or that it shows the strip.
 pub fn strip_verdict(sheet: &[u8], disk: usize, size: usize, stripe: &[u8]) -> Verdict
-    ensures answer { λ r. ⌜ r ≡ stripVerdict (now (sheet .entry)) disk size (length (now (stripe .entry))) ⌝ }
+    ensures answer { λ r. ⌜ outcome r ≡ stripVerdict (now (sheet .entry)) disk size (length (now (stripe .entry))) ⌝ }
 {
     let reading = read_code(sheet);
     let read = reading.verdict;
@@ -113,7 +112,7 @@ pub fn look_up_verdict(
     spare: &[u8],
     symbol: usize,
 ) -> Verdict
-    ensures answer { λ r. ⌜ r ≡ lookUpVerdict (now (sheet .entry)) disk size (length (now (stripe .entry))) (length (now (spare .entry))) symbol ⌝ }
+    ensures answer { λ r. ⌜ outcome r ≡ lookUpVerdict (now (sheet .entry)) disk size (length (now (stripe .entry))) (length (now (spare .entry))) symbol ⌝ }
 {
     let reading = read_code(sheet);
     let read = reading.verdict;

@@ -19,7 +19,7 @@ returns : tie.Need-returns
 returns c =
     let rebuild = c .before .before .before .rebuild in (
       c .out-verdict .ensures ∙ ap outVerdict (rebuild .ensures .0),
-      (rebuild .ensures .1 .0, λ e. rebuild .ensures .1 .1 (number-0-is-fine (c .out-verdict .ensures) e)),
+      (rebuild .ensures .1 .0, λ e. rebuild .ensures .1 .1 (number-0-is-fine (rebuild .result) (c .out-verdict .ensures) e)),
     )
 
 pub navorzim-rebuild-spec : {M : Type 1} → statement M

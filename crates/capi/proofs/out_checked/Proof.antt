@@ -4,6 +4,8 @@ use Prim.Native.Nat.{ℕ}
 use borrow.Author.Needs.{needs}
 use Rattle.capi.specs.Answers.{outChecked}
 use Rattle.capi.specs.declared.OutChecked.{OutChecked}
+use Rattle.plans.specs.Check.{asChecked}
+use Rattle.plans.specs.declared.Checked.{Checked}
 use Rattle.capi.proofs.out_checked.Statement.{statement}
 use Rattle.capi.proofs.out_checked.Tie as tie
 
@@ -19,17 +21,21 @@ number-requires c κs = tt
 place-requires : tie.Need-place-requires
 place-requires c κs = tt
 
+-- How the enum goes out
+abbrev out : Checked → OutChecked
+out answer = outChecked (asChecked answer)
+
 -- A refusal's number and place, and nothing else
 abbrev refused : ℕ → ℕ → OutChecked
 refused number place = record { number = number; place = place; reads = 0 }
 
 returns : tie.Need-returns
-returns c = ap outChecked (sym (c .before .checked .given .1))
+returns c = sym (ap out (c .before .checked .given .1))
 
 returns-2 : tie.Need-returns-2
 returns-2 c =
     ap₂ refused (c .before .number .ensures) (c .place .ensures)
-    ∙ ap outChecked (sym (c .before .before .before .checked2 .given .1))
+    ∙ sym (ap out (c .before .before .before .checked2 .given .1))
 
 pub out-checked-spec : {M : Type 1} → statement M
 out-checked-spec =

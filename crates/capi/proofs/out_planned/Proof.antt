@@ -4,6 +4,8 @@ use Prim.Native.Nat.{ℕ}
 use borrow.Author.Needs.{needs}
 use Rattle.capi.specs.Answers.{outPlanned}
 use Rattle.capi.specs.declared.OutPlanned.{OutPlanned}
+use Rattle.planner.specs.Planning.{asPlanned}
+use Rattle.planner.specs.declared.Planned.{Planned}
 use Rattle.capi.proofs.out_planned.Statement.{statement}
 use Rattle.capi.proofs.out_planned.Tie as tie
 
@@ -22,20 +24,24 @@ number-requires c κs = tt
 place-requires : tie.Need-place-requires
 place-requires c κs = tt
 
+-- How the enum goes out
+abbrev out : Planned → OutPlanned
+out answer = outPlanned (asPlanned answer)
+
 -- A refusal's number and place, and nothing else
 abbrev refused : ℕ → ℕ → OutPlanned
 refused number place = record { number = number; place = place; length = 0; reads = 0; pattern = 0 }
 
 returns : tie.Need-returns
-returns c = ap outPlanned (sym (c .before .planned .given .1))
+returns c = sym (ap out (c .before .planned .given .1))
 
 returns-2 : tie.Need-returns-2
-returns-2 c = ap outPlanned (sym (c .before .planned2 .given .1))
+returns-2 c = sym (ap out (c .before .planned2 .given .1))
 
 returns-3 : tie.Need-returns-3
 returns-3 c =
     ap₂ refused (c .before .number .ensures) (c .place .ensures)
-    ∙ ap outPlanned (sym (c .before .before .before .planned3 .given .1))
+    ∙ sym (ap out (c .before .before .before .planned3 .given .1))
 
 pub out-planned-spec : {M : Type 1} → statement M
 out-planned-spec =

@@ -4,6 +4,8 @@ use Prim.Native.Nat.{ℕ}
 use borrow.Author.Needs.{needs}
 use Rattle.capi.specs.Answers.{outSheet}
 use Rattle.capi.specs.declared.OutSheet.{OutSheet}
+use Rattle.families.specs.FamilySheets.{asWritten}
+use Rattle.families.specs.declared.Written.{Written}
 use Rattle.capi.proofs.out_sheet.Statement.{statement}
 use Rattle.capi.proofs.out_sheet.Tie as tie
 
@@ -19,17 +21,21 @@ number-requires c κs = tt
 place-requires : tie.Need-place-requires
 place-requires c κs = tt
 
+-- How the enum goes out
+abbrev out : Written → OutSheet
+out answer = outSheet (asWritten answer)
+
 -- A refusal's number and place, and nothing else
 abbrev refused : ℕ → ℕ → OutSheet
 refused number place = record { number = number; place = place; length = 0 }
 
 returns : tie.Need-returns
-returns c = ap outSheet (sym (c .before .written .given .1))
+returns c = sym (ap out (c .before .written .given .1))
 
 returns-2 : tie.Need-returns-2
 returns-2 c =
     ap₂ refused (c .before .number .ensures) (c .place .ensures)
-    ∙ ap outSheet (sym (c .before .before .before .written2 .given .1))
+    ∙ sym (ap out (c .before .before .before .written2 .given .1))
 
 pub out-sheet-spec : {M : Type 1} → statement M
 out-sheet-spec =

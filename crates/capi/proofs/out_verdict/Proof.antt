@@ -4,6 +4,8 @@ use Prim.Native.Nat.{ℕ}
 use borrow.Author.Needs.{needs}
 use Rattle.capi.specs.Answers.{outVerdict}
 use Rattle.capi.specs.declared.OutVerdict.{OutVerdict}
+use Rattle.refusals.specs.Orders.{outcome}
+use Rattle.refusals.specs.declared.Verdict.{Verdict}
 use Rattle.capi.proofs.out_verdict.Statement.{statement}
 use Rattle.capi.proofs.out_verdict.Tie as tie
 
@@ -19,17 +21,21 @@ number-requires c κs = tt
 place-requires : tie.Need-place-requires
 place-requires c κs = tt
 
+-- How the enum goes out
+abbrev out : Verdict → OutVerdict
+out answer = outVerdict (outcome answer)
+
 -- A refusal's number and place, and nothing else
 abbrev refused : ℕ → ℕ → OutVerdict
 refused number place = record { number = number; place = place }
 
 returns : tie.Need-returns
-returns c = ap outVerdict (sym (c .enum-told .given .1))
+returns c = sym (ap out (c .enum-told .given .1))
 
 returns-2 : tie.Need-returns-2
 returns-2 c =
     ap₂ refused (c .before .number .ensures) (c .place .ensures)
-    ∙ ap outVerdict (sym (c .before .before .before .verdict .given .1))
+    ∙ sym (ap out (c .before .before .before .verdict .given .1))
 
 pub out-verdict-spec : {M : Type 1} → statement M
 out-verdict-spec =

@@ -1,8 +1,4 @@
 -- `encoding::encode_test` meets its contract: the chain of tests is the list of faults. Assumes nothing.
-use mathlib.Core.Path.{refl, ap}
-use mathlib.Core.Bool.{not}
-use Rattle.refusals.specs.declared.Refusal.the-variants.{SymbolLength, DataLength, StripeLength}
-use Rattle.refusals.proofs.OrderLaws.{orIf-as}
 use Rattle.encoding.proofs.encode_test.Statement.{statement}
 use Rattle.encoding.proofs.encode_test.Tie as tie
 
@@ -26,10 +22,14 @@ or-if-requires-4 c κs = tt
 
 returns : tie.Need-returns
 returns c =
-    let empty = orIf-as SymbolLength (c .before .before .before .before .before .or-if .ensures) refl refl in
-    let long = orIf-as SymbolLength (c .before .before .before .before .or-if2 .ensures) empty refl in
-    let contents = orIf-as DataLength (c .before .before .or-if3 .ensures) long (ap not (c .before .before .before .is-length .ensures)) in
-    orIf-as StripeLength (c .or-if4 .ensures) contents (ap not (c .before .is-length2 .ensures))
+    rw (
+      c .or-if4 .ensures,
+      c .before .is-length2 .ensures,
+      c .before .before .or-if3 .ensures,
+      c .before .before .before .is-length .ensures,
+      c .before .before .before .before .or-if2 .ensures,
+      c .before .before .before .before .before .or-if .ensures,
+    )
 
 pub encode-test-spec : {M : Type 1} → statement M
 encode-test-spec =

@@ -4,9 +4,8 @@ use Prim.Native.Nat.{ℕ}
 use lib.Dec.{ltb}
 use borrow.Author.Tests.{not-true, not-false}
 use borrow.Author.Needs.{needs}
-use Rattle.refusals.specs.Orders.{orIf}
-use Rattle.refusals.specs.declared.Refusal.the-variants.{SheetBufferTooShort}
-use Rattle.refusals.specs.declared.Verdict.the-variants.{Fine}
+use Rattle.refusals.specs.Orders.{orIf, Fine}
+use Rattle.refusals.specs.Refusals.{_at_}
 use Rattle.families.proofs.AnswerLaws.{familyVerdict-of-unlisted, familyVerdict-of-listed}
 use Rattle.families.proofs.verdict_on.Statement.{statement}
 use Rattle.families.proofs.verdict_on.Tie as tie
@@ -30,7 +29,7 @@ returns-2 c =
     let listed = c .before .before in
     let a = listed .before .before .args in
     c .or-if .ensures
-    ∙ ap (λ (size : ℕ). orIf Fine (ltb (a .buffer-length) size) SheetBufferTooShort) (c .before .sheet-length-of .ensures)
+    ∙ ap (λ (size : ℕ). orIf Fine (ltb (a .buffer-length) size) (37 at 0)) (c .before .sheet-length-of .ensures)
     ∙ familyVerdict-of-listed (a .family) (a .buffer-length) (sym (listed .before .is-listed .ensures) ∙ not-false _ (listed .if1 .left))
 
 pub verdict-on-spec : {M : Type 1} → statement M

@@ -4,6 +4,7 @@ use mathlib.Core.List.{_++_}
 use native.Mathlib.Omega.{arith}
 use lib.ListN.{length, drop}
 use borrow.Author.Needs.{needs}
+use Rattle.refusals.specs.Orders.{outcome}
 use Rattle.codes.specs.Codes.{WithinLimits}
 use Rattle.codes.specs.declared.Code.{Code}
 use Rattle.sheets.specs.CodeSheets.{codeSheet}
@@ -21,7 +22,7 @@ enum-told c = c .match .keys1
 code-of-requires : tie.Need-code-of-requires
 code-of-requires c κs =
     let a = c .before .before .before .before .args in
-    let fine = sym (c .before .before .verdict-on .ensures) ∙ c .enum-told .given .1 in
+    let fine = sym (c .before .before .verdict-on .ensures) ∙ ap outcome (c .enum-told .given .1) in
     fine-so-listed (a .family) (length (a .buffer .now)) fine
 
 write-code-requires : tie.Need-write-code-requires
@@ -29,7 +30,7 @@ write-code-requires c κs =
     let told = c .before .before in
     let a = told .before .before .before .before .args in
     let size = length (a .buffer .now) in
-    let fine = sym (told .before .before .verdict-on .ensures) ∙ told .enum-told .given .1 in
+    let fine = sym (told .before .before .verdict-on .ensures) ∙ ap outcome (told .enum-told .given .1) in
     let made = c .before .code-of .ensures in (
       subst WithinLimits (sym made) (familyCode-within-limits (a .family) (fine-so-listed (a .family) size fine)),
       omega (arith, ap (λ (code : Code). length (codeSheet code)) made, fine-so-room (a .family) size fine),
@@ -39,7 +40,7 @@ sheet-length-of-requires : tie.Need-sheet-length-of-requires
 sheet-length-of-requires c κs =
     let told = c .before .before .before .before .before in
     let a = told .before .before .before .before .args in
-    let fine = sym (told .before .before .verdict-on .ensures) ∙ told .enum-told .given .1 in
+    let fine = sym (told .before .before .verdict-on .ensures) ∙ ap outcome (told .enum-told .given .1) in
     fine-so-listed (a .family) (length (a .buffer .now)) fine
 
 enum-known-verdict : tie.Need-enum-known-verdict
@@ -54,7 +55,7 @@ returns c =
     let made = written .before .before in
     let told = made .before in
     let a = told .before .before .before .before .args in
-    let fine = sym (told .before .before .verdict-on .ensures) ∙ told .enum-told .given .1 in
+    let fine = sym (told .before .before .verdict-on .ensures) ∙ ap outcome (told .enum-told .given .1) in
     written-call (a .family) (a .buffer .now) _ _ fine (c .sheet-length-of .ensures)
     (written .write-code .ensures
     ∙ ap (λ (code : Code). codeSheet code ++ drop (length (codeSheet code)) (a .buffer .now)) (made .code-of .ensures))
@@ -63,7 +64,7 @@ returns-2 : tie.Need-returns-2
 returns-2 c =
     let answered = c .before .before .before in
     let a = answered .before .before .args in
-    refused-call (a .family) (a .buffer .now) _ (sym (answered .verdict-on .ensures) ∙ c .before .verdict .given .1)
+    refused-call (a .family) (a .buffer .now) _ (sym (answered .verdict-on .ensures) ∙ ap outcome (c .before .verdict .given .1))
 
 pub write-family-spec : {M : Type 1} → statement M
 write-family-spec =

@@ -1,6 +1,9 @@
 -- `desk_text` meets its contract: the refusal line alone, or the report. Assumes nothing.
 use Rattle.lines.proofs.LineLaws.{text-if-refused, text-if-fine}
 use Rattle.texts.proofs.TextLaws.{holds-as}
+use mathlib.Core.Path.{ap}
+use Rattle.refusals.specs.Orders.{outcome}
+use Rattle.sheets.specs.CodeReading.{asRead}
 use borrow.Author.Needs.{needs}
 use Rattle.lines.proofs.desk_text.Statement.{statement}
 use Rattle.lines.proofs.desk_text.Tie as tie
@@ -35,8 +38,8 @@ returns c =
     let read = told .before .before .before .read-code in
     let sheets = told .before .before .before .before in
     holds-as _
-    (text-if-fine (sheets .before .before .before .args .input .now) _ (read .result) (sheets .before .code-sheet .ensures) (read .ensures .0) _ _ _
-    (sheets .plan-sheet .ensures) (c .before .before .byte-at .ensures .0) (c .before .check .ensures .0) (told .enum-told .given .1))
+    (text-if-fine (sheets .before .before .before .args .input .now) _ (asRead (read .result)) (sheets .before .code-sheet .ensures) (read .ensures .0) _ _ _
+    (sheets .plan-sheet .ensures) (c .before .before .byte-at .ensures .0) (c .before .check .ensures .0) (ap outcome (told .enum-told .given .1)))
     (c .report .ensures)
 
 refusal-text-requires : tie.Need-refusal-text-requires
@@ -48,8 +51,8 @@ returns-2 c =
     let read = told .before .before .before .read-code in
     let sheets = told .before .before .before .before in
     holds-as _
-    (text-if-refused (sheets .before .before .before .args .input .now) _ (read .result) (sheets .before .code-sheet .ensures) (read .ensures .0) _
-    (told .verdict .given .1))
+    (text-if-refused (sheets .before .before .before .args .input .now) _ (asRead (read .result)) (sheets .before .code-sheet .ensures) (read .ensures .0) _
+    (ap outcome (told .verdict .given .1)))
     (c .refusal-text .ensures)
 
 pub desk-text-spec : {M : Type 1} → statement M

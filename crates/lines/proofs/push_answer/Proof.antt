@@ -2,6 +2,8 @@
 use mathlib.Core.Path.{sym, ap}
 use native.Mathlib.Omega.{arith}
 use Rattle.lines.specs.Lines.{answerLines}
+use Rattle.plans.specs.Check.{asChecked}
+use Rattle.plans.specs.declared.Checked.{Checked}
 use Rattle.texts.proofs.TextLaws.{extended-as}
 use borrow.Author.Needs.{needs}
 use Rattle.lines.proofs.push_answer.Statement.{statement}
@@ -20,10 +22,10 @@ push-refusal-requires : tie.Need-push-refusal-requires
 push-refusal-requires c κs = search needs
 
 returns : tie.Need-returns
-returns c = extended-as 53 _ (omega arith) (sym (ap answerLines (c .before .before .answer .given .1))) (c .push-accepted .ensures)
+returns c = extended-as 53 _ (omega arith) (sym (ap (λ (a : Checked). answerLines (asChecked a)) (c .before .before .answer .given .1))) (c .push-accepted .ensures)
 
 returns-2 : tie.Need-returns-2
-returns-2 c = extended-as 53 _ (omega arith) (sym (ap answerLines (c .before .before .answer2 .given .1))) (c .push-refusal .ensures)
+returns-2 c = extended-as 53 _ (omega arith) (sym (ap (λ (a : Checked). answerLines (asChecked a)) (c .before .before .answer2 .given .1))) (c .push-refusal .ensures)
 
 pub push-answer-spec : {M : Type 1} → statement M
 push-answer-spec =

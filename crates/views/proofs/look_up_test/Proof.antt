@@ -1,10 +1,4 @@
 -- `views::look_up_test` meets its contract: the tests behind those of a strip are the faults behind its. Assumes nothing.
-use mathlib.Core.Path.{refl, ap, _∙_}
-use mathlib.Core.Bool.{not}
-use Prim.Native.Nat.{ℕ, _*_}
-use lib.Dec.{eqb, leb}
-use Rattle.refusals.specs.declared.Refusal.the-variants.{SpareStripLength, NoSuchSymbol}
-use Rattle.refusals.proofs.OrderLaws.{orIf-as}
 use Rattle.views.proofs.look_up_test.Statement.{statement}
 use Rattle.views.proofs.look_up_test.Tie as tie
 
@@ -28,11 +22,14 @@ or-if-requires-2 c κs = tt
 
 returns : tie.Need-returns
 returns c =
-    let args = c .before .before .before .before .before .before .args in
-    let spare =
-    orIf-as SpareStripLength (c .before .or-if .ensures) (c .before .before .before .strip-test .ensures)
-    (ap not (c .before .before .is-length .ensures) ∙ ap (λ (count : ℕ). not (eqb (args .spare) (count * args .size))) (c .before .before .before .before .before .height-of .ensures)) in
-    orIf-as NoSuchSymbol (c .or-if2 .ensures) spare (ap (λ (count : ℕ). leb count (args .symbol)) (c .before .before .before .before .symbols .ensures))
+    rw (
+      c .or-if2 .ensures,
+      c .before .or-if .ensures,
+      c .before .before .before .strip-test .ensures,
+      c .before .before .is-length .ensures,
+      c .before .before .before .before .before .height-of .ensures,
+      c .before .before .before .before .symbols .ensures,
+    )
 
 pub look-up-test-spec : {M : Type 1} → statement M
 look-up-test-spec =

@@ -1,7 +1,9 @@
 -- `views::strip_place` meets its contract: the part of no bytes where its verdict refuses, the disk's strip where it is fine. Assumes nothing.
-use mathlib.Core.Path.{refl}
+use mathlib.Core.Path.{refl, ap}
 use native.Mathlib.Omega.{arith}
 use lib.ListN.{length}
+use Rattle.refusals.specs.Orders.{outcome}
+use Rattle.sheets.specs.CodeReading.{asRead}
 use Rattle.views.proofs.ReadLaws.{layout-small}
 use Rattle.views.proofs.StripLaws.{StripFits, fine-strip-fits, strip-ends-within, strip-refused, strip-placed}
 use Rattle.views.proofs.strip_place.Statement.{statement}
@@ -12,7 +14,7 @@ read-code-requires c κs = tt
 
 strip-test-requires : tie.Need-strip-test-requires
 strip-test-requires c κs =
-    layout-small (c .before .before .before .before .before .args .sheet .now) (c .before .before .read-code .result) (c .before .before .read-code .ensures)
+    layout-small (c .before .before .before .before .before .args .sheet .now) (asRead (c .before .before .read-code .result)) (c .before .before .read-code .ensures)
 
 enum-told : tie.Need-enum-told
 enum-told c = c .match .keys1
@@ -28,17 +30,17 @@ returns c =
     let args = c .before .before .before .before .before .before .before .before .before .args in
     let read = c .before .before .before .before .before .before .read-code in
     let test = c .before .before .before .strip-test in
-    strip-refused (args .sheet .now) (args .stripe .now) (args .disk) (args .size) (read .result) (read .ensures) (test .result) (test .ensures)
-    (c .nowhere .ensures) (c .before .enum-told2 .given .1)
+    strip-refused (args .sheet .now) (args .stripe .now) (args .disk) (args .size) (asRead (read .result)) (read .ensures) (outcome (test .result)) (test .ensures)
+    (c .nowhere .ensures) (ap outcome (c .before .enum-told2 .given .1))
 
 -- Where the verdict is fine, the lengths fit
 fits : (c : tie.After-enum-told)
-    → let args = c .before .before .before .before .before .before .before .before .args in StripFits (c .before .before .before .before .before .read-code .result) (args .disk) (args .size) (length (args .stripe .now))
+    → let args = c .before .before .before .before .before .before .before .before .args in StripFits (asRead (c .before .before .before .before .before .read-code .result)) (args .disk) (args .size) (length (args .stripe .now))
 fits c =
     let args = c .before .before .before .before .before .before .before .before .args in
     let read = c .before .before .before .before .before .read-code in
-    fine-strip-fits (args .sheet .now) (read .result) (read .ensures) (args .disk) (args .size) (length (args .stripe .now))
-    (c .before .before .strip-test .ensures) (c .enum-told .given .1)
+    fine-strip-fits (args .sheet .now) (asRead (read .result)) (read .ensures) (args .disk) (args .size) (length (args .stripe .now))
+    (c .before .before .strip-test .ensures) (ap outcome (c .enum-told .given .1))
 
 first-symbol-requires : tie.Need-first-symbol-requires
 first-symbol-requires c κs =
@@ -62,8 +64,8 @@ returns-2 c =
     let args = c .before .before .before .before .before .before .before .before .before .before .args in
     let read = c .before .before .before .before .before .before .before .read-code in
     let test = c .before .before .before .before .strip-test in
-    strip-placed (args .sheet .now) (args .stripe .now) (args .disk) (args .size) (read .result) (read .ensures) (test .result) (test .ensures)
-    (c .before .first-symbol .ensures) (c .height-of .ensures) (c .before .before .enum-told .given .1)
+    strip-placed (args .sheet .now) (args .stripe .now) (args .disk) (args .size) (asRead (read .result)) (read .ensures) (outcome (test .result)) (test .ensures)
+    (c .before .first-symbol .ensures) (c .height-of .ensures) (ap outcome (c .before .before .enum-told .given .1))
 
 pub strip-place-spec : {M : Type 1} → statement M
 strip-place-spec =

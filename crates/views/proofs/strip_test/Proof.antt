@@ -1,10 +1,4 @@
 -- `views::strip_test` meets its contract: the chain of tests is the list of faults. Assumes nothing.
-use mathlib.Core.Path.{refl, ap, _∙_}
-use mathlib.Core.Bool.{not}
-use Prim.Native.Nat.{ℕ, _*_}
-use lib.Dec.{eqb}
-use Rattle.refusals.specs.declared.Refusal.the-variants.{NoSuchDisk, SymbolLength, StripeLength}
-use Rattle.refusals.proofs.OrderLaws.{orIf-as}
 use Rattle.views.proofs.strip_test.Statement.{statement}
 use Rattle.views.proofs.strip_test.Tie as tie
 
@@ -28,12 +22,14 @@ or-if-requires-4 c κs = tt
 
 returns : tie.Need-returns
 returns c =
-    let args = c .before .before .before .before .before .before .before .args in
-    let disk = orIf-as NoSuchDisk (c .before .before .before .before .or-if .ensures) refl refl in
-    let empty = orIf-as SymbolLength (c .before .before .before .or-if2 .ensures) disk refl in
-    let long = orIf-as SymbolLength (c .before .before .or-if3 .ensures) empty refl in
-    orIf-as StripeLength (c .or-if4 .ensures) long
-    (ap not (c .before .is-length .ensures) ∙ ap (λ (count : ℕ). not (eqb (args .bytes) (count * args .size))) (c .before .before .before .before .before .before .symbols .ensures))
+    rw (
+      c .or-if4 .ensures,
+      c .before .is-length .ensures,
+      c .before .before .before .before .before .before .symbols .ensures,
+      c .before .before .or-if3 .ensures,
+      c .before .before .before .or-if2 .ensures,
+      c .before .before .before .before .or-if .ensures,
+    )
 
 pub strip-test-spec : {M : Type 1} → statement M
 strip-test-spec =
