@@ -20,6 +20,14 @@ sliceOf part stripe spare = cond (part .in_spare) spare stripe
 abbrev pub covered : Part → List ℕ → List ℕ
 covered part slice = take (part .length) (drop (part .start) slice)
 
+-- A place in memory is a block and a byte of it; so many bytes after such a place
+abbrev pub after : ℕ → ℕ × ℕ → ℕ × ℕ
+after bytes place = (place .0, bytes + place .1)
+
+-- Where a part begins in memory, by where the two slices begin: it is the caller's own memory, not a copy
+abbrev pub beginning : Part → ℕ × ℕ → ℕ × ℕ → ℕ × ℕ
+beginning part stripe spare = after (part .start) (cond (part .in_spare) spare stripe)
+
 -- The part of no bytes
 abbrev pub nowhere : Part
 nowhere = record { in_spare = false; start = 0; length = 0 }

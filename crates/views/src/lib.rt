@@ -4,7 +4,7 @@ ghost use Prim.Native.Nat.{_≤_, _<_};
 ghost use lib.ListN.{length};
 ghost use Rattle.refusals.specs.Orders.{Fine, outcome, andThen};
 ghost use Rattle.views.specs.Views.{stripFaults, stripVerdict, stripShown, lookUpFaults, lookUpVerdict, symbolShown};
-ghost use Rattle.views.specs.Places.{nowhere, stripPlace, symbolPlace, sliceOf, Shows};
+ghost use Rattle.views.specs.Places.{nowhere, stripPlace, symbolPlace, sliceOf, Shows, beginning};
 use codes::Layout;
 use codes::is_length;
 use refusals::Refusal;
@@ -96,6 +96,7 @@ pub fn strip_place(sheet: &[u8], disk: usize, size: usize, stripe: &[u8]) -> Par
 pub fn strip<'a>(sheet: &[u8], disk: usize, size: usize, stripe: &'a [u8]) -> &'a [u8]
     ensures answer { λ r. ⌜ now r ≡ stripShown (now (sheet .entry)) disk size (now (stripe .entry)) ⌝ }
     ensures shown { λ r. ⌜ (stripVerdict (now (sheet .entry)) disk size (length (now (stripe .entry))) ≡ Fine → 0 < length (now r)) ⌝ }
+    ensures own { λ r. ⌜ r .ptr ≡ beginning (stripPlace (now (sheet .entry)) disk size (length (now (stripe .entry)))) (stripe .entry .ptr) (stripe .entry .ptr) ⌝ }
 {
     let part = strip_place(sheet, disk, size, stripe);
     let start = part.start;
@@ -169,6 +170,7 @@ pub fn look_up<'a>(
 ) -> &'a [u8]
     ensures answer { λ r. ⌜ now r ≡ symbolShown (now (sheet .entry)) disk size (now (stripe .entry)) (now (spare .entry)) symbol ⌝ }
     ensures shown { λ r. ⌜ (lookUpVerdict (now (sheet .entry)) disk size (length (now (stripe .entry))) (length (now (spare .entry))) symbol ≡ Fine → 0 < length (now r)) ⌝ }
+    ensures own { λ r. ⌜ r .ptr ≡ beginning (symbolPlace (now (sheet .entry)) disk size (length (now (stripe .entry))) (length (now (spare .entry))) symbol) (stripe .entry .ptr) (spare .entry .ptr) ⌝ }
 {
     let part = symbol_place(sheet, disk, size, stripe, spare, symbol);
     let start = part.start;

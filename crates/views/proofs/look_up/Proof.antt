@@ -1,6 +1,6 @@
 -- `views::look_up` meets its contract: it is the part of the stripe or of the spare strip that `symbol_place` names. Assumes nothing.
 use native.Mathlib.Omega.{arith}
-use Rattle.views.proofs.PartLaws.{part-shown, shows-there}
+use Rattle.views.proofs.PartLaws.{part-shown, shows-there, begins-there}
 use Rattle.views.specs.Places.{Shows}
 use Rattle.views.specs.Views.{symbolShown, lookUpVerdict}
 use lib.ListN.{length}
@@ -37,7 +37,11 @@ part-result-end : tie.Need-part-result-end
 part-result-end c = in-spare (c .before) .within
 
 returns : tie.Need-returns
-returns c = part-shown (in-spare (c .before .before))
+returns c =
+    let shown = part-shown (in-spare (c .before .before)) in
+    let args = c .before .before .before .before .before .before .before .args in
+    let place = c .before .before .before .symbol-place in
+    (shown .0, (shown .1, begins-there (args .stripe .ptr) (args .spare .ptr) (place .result) (c .before .before .if1 .taken) (place .ensures .0)))
 
 add-result-2 : tie.Need-add-result-2
 add-result-2 c = omega (arith, in-stripe (c .before) .within)
@@ -52,7 +56,11 @@ part-result-end-2 : tie.Need-part-result-end-2
 part-result-end-2 c = in-stripe (c .before) .within
 
 returns-2 : tie.Need-returns-2
-returns-2 c = part-shown (in-stripe (c .before .before))
+returns-2 c =
+    let shown = part-shown (in-stripe (c .before .before)) in
+    let args = c .before .before .before .before .before .before .before .args in
+    let place = c .before .before .before .symbol-place in
+    (shown .0, (shown .1, begins-there (args .stripe .ptr) (args .spare .ptr) (place .result) (c .before .before .if1 .left) (place .ensures .0)))
 
 pub look-up-spec : {M : Type 1} → statement M
 look-up-spec =

@@ -1,6 +1,6 @@
 -- `views::strip` meets its contract: it is the part of the stripe that `strip_place` names. Assumes nothing.
 use native.Mathlib.Omega.{arith}
-use Rattle.views.proofs.PartLaws.{part-shown}
+use Rattle.views.proofs.PartLaws.{part-shown, begins-in-one}
 use Rattle.views.proofs.strip.Statement.{statement}
 use Rattle.views.proofs.strip.Tie as tie
 
@@ -20,7 +20,10 @@ part-result-end : tie.Need-part-result-end
 part-result-end c = omega (arith, c .before .strip-place .ensures .1 .within)
 
 returns : tie.Need-returns
-returns c = part-shown (c .before .before .strip-place .ensures .1)
+returns c =
+    let place = c .before .before .strip-place in
+    let shown = part-shown (place .ensures .1) in
+    (shown .0, (shown .1, begins-in-one (c .before .before .before .before .before .args .stripe .ptr) (place .result) (place .ensures .0)))
 
 pub strip-spec : {M : Type 1} → statement M
 strip-spec =
