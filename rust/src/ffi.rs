@@ -2,7 +2,7 @@
 //!
 //! Why every call is sound: a slice goes over as its own pointer and length, so the callee sees memory that is valid for
 //! that length for the whole call; a `&mut` slice is borrowed mutably, so nothing else reads or writes it meanwhile, and no
-//! two arguments overlap; the callee is proved to stay within its slices, to end and to keep nothing behind; answers are
+//! two arguments overlap; the callee is proved to stay within its slices, to end and to keep no pointer; answers are
 //! structs of plain numbers, which have no invalid value.
 #![allow(unsafe_code)]
 

@@ -1,15 +1,16 @@
 //! Plans, checks and rebuilds for small disk arrays that are coded with XOR.
 //!
-//! The work is done by a library written in Rattle, in which every function is proved to meet its contract; this crate is its
-//! safe face. Each call tests everything itself, never panics, keeps nothing between calls, and a refused call changes no byte
-//! that it was lent. A refusal carries the number and place that the rules, documents 01 and 02, give it.
+//! The work is done by a library written in Rattle, in which every function is proved to meet its contract. This crate makes it
+//! safe to call from Rust. Each call tests everything itself, never panics and keeps nothing between calls. A refused call changes
+//! no byte that it was lent.
 //!
-//! An array has n disks of r symbols of L bytes each, N = n × r in all, and K data symbols. A *code sheet* (22 to 518 bytes)
-//! says which data symbols each symbol is the XOR of; a *stripe* is N × L bytes, symbol s at s × L; a *plan sheet* (9 to 3,114
-//! bytes) says how to bring the *wanted* symbols of a lost disk back: in edition 1 all of them, in edition 2 those of a list.
+//! An array has n disks of r symbols each, N = n × r in all, and a symbol is L bytes. K symbols of data go in. A *code sheet* (22 to
+//! 518 bytes) says which data symbols each symbol is the XOR of. A *stripe* is N × L bytes, symbol s at byte s × L. A *plan sheet*
+//! (9 to 3,114 bytes) says how to bring the *wanted* symbols of a lost disk back: in edition 1 the whole disk, in edition 2 a list.
+//! `docs/RULES.md` has all of it, byte for byte.
 //!
 //! ```
-//! use navorzim::{check, encode, make_plan, rebuild, Family, Planning};
+//! use navorzim::{check, encode, plan, rebuild, Family, Planning};
 //!
 //! let sheet = Family::Liberation { w: 5, data_disks: 5 }.sheet()?;
 //! let data = vec![7; 25 * 64];
@@ -19,14 +20,15 @@
 //! // Disk 0 dies.
 //! let whole = stripe.clone();
 //! stripe[..5 * 64].fill(0xff);
-//! let Planning::Plan { plan, reads } = make_plan(&sheet, 0)? else { panic!("a Liberation array survives one disk") };
+//! let Planning::Plan { plan, reads } = plan(&sheet, 0)? else { panic!("a Liberation array survives one disk") };
 //! assert_eq!(check(&sheet, 0, &plan), Ok(reads));
 //! rebuild(&sheet, 0, &plan, 64, &mut stripe)?;
 //! assert_eq!(stripe, whole);
 //! # Ok::<(), navorzim::Refusal>(())
 //! ```
 //!
-//! Where one record is enough, [`plan_wanted`] plans for some of the lost symbols, and the same [`check`] and [`rebuild`] take its plan.
+//! Where one record is enough, [`plan_wanted`] plans for some of the lost symbols. [`check`] and [`rebuild`] take its plan like any
+//! other. [`plan_into`] and [`plan_wanted_into`] write to a buffer of the caller's and allocate nothing.
 #![deny(unsafe_code)]
 #![warn(missing_docs)]
 
@@ -38,8 +40,8 @@ pub use refusal::Refusal;
 /// The length of the longest code sheet.
 pub const LONGEST_CODE_SHEET: usize = 518;
 
-/// The length of the longest plan sheet. A buffer of this length suffices for every plan: [`plan`] asks for 3,081 bytes or more,
-/// [`plan_wanted_into`] for 3,114.
+/// The length of the longest plan sheet. A buffer of this length is enough for every plan: [`plan_into`] asks for 3,081 bytes or
+/// more, [`plan_wanted_into`] for 3,114 or more.
 pub const PLAN_BUFFER: usize = 3114;
 
 /// A family of codes that can be asked for by name.
@@ -47,27 +49,31 @@ pub const PLAN_BUFFER: usize = 3114;
 pub enum Family {
     /// `data_disks` disks of `rows` rows, and one disk with the XOR of each row.
     SingleParity {
-        /// k, from 1
+        /// k, from 1 to 63.
         data_disks: u64,
-        /// r, from 1
+        /// r, from 1 to 32. (k + 1) × r is at most 64.
         rows: u64,
     },
     /// Plank's Liberation codes: two parity disks, w rows.
     Liberation {
-        /// 3, 5 or 7
+        /// 3, 5 or 7.
         w: u64,
-        /// 2 to w
+        /// k, from 2 to w.
         data_disks: u64,
     },
     /// p − 1 data disks of p − 1 rows, row parity and diagonal parity.
     RowDiagonal {
-        /// 3, 5 or 7
+        /// 3, 5 or 7.
         p: u64,
     },
 }
 
 impl Family {
-    /// Writes the family's code sheet at the front of the buffer and answers its length; bytes behind it stay.
+    /// Writes the family's code sheet at the front of the buffer and answers its length. The bytes after it stay.
+    ///
+    /// # Errors
+    ///
+    /// [`Refusal::NotInFamily`], then [`Refusal::SheetBufferTooShort`].
     pub fn write_sheet(&self, buffer: &mut [u8]) -> Result<usize, Refusal> {
         let written = match *self {
             Family::SingleParity { data_disks, rows } => ffi::single_parity(data_disks, rows, buffer),
@@ -78,6 +84,10 @@ impl Family {
     }
 
     /// The family's code sheet.
+    ///
+    /// # Errors
+    ///
+    /// [`Refusal::NotInFamily`].
     ///
     /// ```
     /// use navorzim::{Family, Refusal};
@@ -95,80 +105,86 @@ impl Family {
 
 /// Encodes K data symbols of `symbol_length` bytes into the whole stripe.
 ///
-/// Refused: the code sheet (1 to 6), 31, 33, 32.
+/// # Errors
+///
+/// In this order: the code sheet's (1 to 6), [`Refusal::SymbolLength`], [`Refusal::DataLength`], [`Refusal::StripeLength`].
 pub fn encode(sheet: &[u8], symbol_length: u64, data: &[u8], stripe: &mut [u8]) -> Result<(), Refusal> {
     let verdict = ffi::encode(sheet, symbol_length, data, stripe);
     unless_refused(verdict.number, verdict.place, ())
 }
 
-/// Judges a plan sheet, of edition 1 or 2, for a code sheet and a failed disk; answers how many surviving symbols it reads.
+/// Judges a plan sheet, of edition 1 or 2, for a code and a failed disk. Answers how many surviving symbols the plan reads.
 ///
-/// Refused: the code sheet (1 to 6), 7, the plan (11 to 23).
+/// # Errors
+///
+/// In this order: the code sheet's (1 to 6), [`Refusal::NoSuchDisk`], the plan sheet's (11 to 23).
 pub fn check(sheet: &[u8], disk: u64, plan: &[u8]) -> Result<u64, Refusal> {
     let checked = ffi::check(sheet, disk, plan);
     unless_refused(checked.number, checked.place, checked.reads)
 }
 
-/// What planning into a lent buffer answers.
+/// What [`plan_into`] and [`plan_wanted_into`] answer.
 #[derive(Clone, Copy, Debug, PartialEq, Eq)]
 pub enum Planned {
     /// A plan sheet stands at the front of the buffer.
     Plan {
-        /// its length
+        /// Its length in bytes.
         length: usize,
-        /// how many surviving symbols it reads
+        /// How many surviving symbols it reads.
         reads: u64,
     },
-    /// The wanted symbols can't all be rebuilt by any plan: data with these bits gives zero in every surviving symbol and not in some
-    /// wanted one. [`plan`] wants the whole disk.
+    /// No plan can bring all wanted symbols back, and these K bits show it: data whose symbols are 01 bytes where a bit is set, and
+    /// zero elsewhere, gives zero in every surviving symbol and something else in a wanted one. Nothing was written.
     Pattern(u64),
 }
 
-/// What [`make_plan`] and [`plan_wanted`] answer.
+/// What [`plan`] and [`plan_wanted`] answer.
 #[derive(Clone, Debug, PartialEq, Eq)]
 pub enum Planning {
     /// A plan.
     Plan {
-        /// the plan sheet
+        /// The plan sheet.
         plan: Vec<u8>,
-        /// how many surviving symbols it reads
+        /// How many surviving symbols it reads.
         reads: u64,
     },
-    /// As [`Planned::Pattern`].
+    /// There is no plan, as with [`Planned::Pattern`].
     Pattern(u64),
 }
 
-/// Plans the rebuild of a disk into a buffer of at least 3,081 bytes; bytes after the plan stay, and a pattern writes nothing.
+/// Plans the rebuild of a whole disk. The plan sheet is of edition 1.
 ///
-/// Refused: the code sheet (1 to 6), 7, 34.
-pub fn plan(sheet: &[u8], disk: u64, buffer: &mut [u8]) -> Result<Planned, Refusal> {
+/// # Errors
+///
+/// In this order: the code sheet's (1 to 6), [`Refusal::NoSuchDisk`].
+///
+/// ```
+/// use navorzim::{plan, Planning};
+/// // Two disks of one symbol each, rows 1 and 2: nothing of disk 0 is on disk 1.
+/// let apart = [4, 1, 2, 1, 2, 2, 1, 0, 0, 0, 0, 0, 0, 0, 2, 0, 0, 0, 0, 0, 0, 0];
+/// assert_eq!(plan(&apart, 0), Ok(Planning::Pattern(1)));
+/// ```
+pub fn plan(sheet: &[u8], disk: u64) -> Result<Planning, Refusal> {
+    owned(|buffer| plan_into(sheet, disk, buffer))
+}
+
+/// Plans the rebuild of a whole disk, as [`plan`] does, into a buffer of 3,081 bytes or more. The bytes after the plan stay.
+///
+/// # Errors
+///
+/// In this order: the code sheet's (1 to 6), [`Refusal::NoSuchDisk`], [`Refusal::PlanBufferTooShort`].
+pub fn plan_into(sheet: &[u8], disk: u64, buffer: &mut [u8]) -> Result<Planned, Refusal> {
     planned(ffi::plan(sheet, disk, buffer))
 }
 
-/// Plans the rebuild of a disk.
+/// Plans the rebuild of some symbols of a disk. `wanted` holds their numbers, disk × r + row, rising.
 ///
-/// ```
-/// use navorzim::{make_plan, Planning};
-/// // Two disks of one symbol each, rows 1 and 2: nothing of disk 0 is on disk 1.
-/// let apart = [4, 1, 2, 1, 2, 2, 1, 0, 0, 0, 0, 0, 0, 0, 2, 0, 0, 0, 0, 0, 0, 0];
-/// assert_eq!(make_plan(&apart, 0), Ok(Planning::Pattern(1)));
-/// ```
-pub fn make_plan(sheet: &[u8], disk: u64) -> Result<Planning, Refusal> {
-    owned(|buffer| plan(sheet, disk, buffer))
-}
-
-/// Plans the rebuild of some symbols of a disk into a buffer of at least [`PLAN_BUFFER`] bytes; bytes after the plan stay, and a pattern
-/// writes nothing. `wanted` is as for [`plan_wanted`].
+/// The plan sheet is of edition 2 and wants exactly these symbols. A rebuild by it leaves the disk's other symbols as they are. It
+/// may read fewer symbols than a plan for the whole disk, and may exist where that one does not.
 ///
-/// Refused: the code sheet (1 to 6), 7, 23, 34.
-pub fn plan_wanted_into(sheet: &[u8], disk: u64, wanted: &[u8], buffer: &mut [u8]) -> Result<Planned, Refusal> {
-    planned(ffi::plan_wanted(sheet, disk, wanted, buffer))
-}
-
-/// Plans the rebuild of some symbols of a disk: `wanted` holds their numbers, disk × r + row, rising. The plan sheet is of edition 2 and
-/// wants exactly these; a rebuild by it leaves the disk's other symbols as they are. It may exist where the whole disk has no plan.
+/// # Errors
 ///
-/// Refused: the code sheet (1 to 6), 7, 23.
+/// In this order: the code sheet's (1 to 6), [`Refusal::NoSuchDisk`], [`Refusal::BadWantedList`].
 ///
 /// ```
 /// use navorzim::{check, encode, plan_wanted, rebuild, Family, Planning, Refusal};
@@ -178,19 +194,29 @@ pub fn plan_wanted_into(sheet: &[u8], disk: u64, wanted: &[u8], buffer: &mut [u8
 /// encode(&sheet, 1, &[1, 2, 3, 4, 5, 6, 7, 8, 9, 10, 11, 12], &mut stripe)?;
 /// stripe[4..8].fill(0xff);
 ///
-/// // Of disk 1, symbols 4 to 7, only row 2 is waited for.
+/// // Disk 1 has symbols 4 to 7. Somebody waits for row 2 of it, symbol 6.
 /// let Planning::Plan { plan, reads } = plan_wanted(&sheet, 1, &[6])? else { panic!("single parity survives one disk") };
 /// assert_eq!((reads, check(&sheet, 1, &plan)), (3, Ok(3)));
 /// rebuild(&sheet, 1, &plan, 1, &mut stripe)?;
 /// assert_eq!(stripe[4..8], [0xff, 0xff, 7, 0xff]);
 ///
-/// // Lists rise, and stay on the disk.
+/// // A list rises, and stays on the disk.
 /// assert_eq!(plan_wanted(&sheet, 1, &[5, 6, 6]), Err(Refusal::BadWantedList { position: 2 }));
 /// assert_eq!(plan_wanted(&sheet, 1, &[3]), Err(Refusal::BadWantedList { position: 0 }));
 /// # Ok::<(), Refusal>(())
 /// ```
 pub fn plan_wanted(sheet: &[u8], disk: u64, wanted: &[u8]) -> Result<Planning, Refusal> {
     owned(|buffer| plan_wanted_into(sheet, disk, wanted, buffer))
+}
+
+/// Plans the rebuild of some symbols of a disk, as [`plan_wanted`] does, into a buffer of [`PLAN_BUFFER`] bytes or more. The bytes
+/// after the plan stay.
+///
+/// # Errors
+///
+/// In this order: the code sheet's (1 to 6), [`Refusal::NoSuchDisk`], [`Refusal::BadWantedList`], [`Refusal::PlanBufferTooShort`].
+pub fn plan_wanted_into(sheet: &[u8], disk: u64, wanted: &[u8], buffer: &mut [u8]) -> Result<Planned, Refusal> {
+    planned(ffi::plan_wanted(sheet, disk, wanted, buffer))
 }
 
 /// Planning's answer, by its case.
@@ -215,9 +241,12 @@ fn owned(plan_into: impl FnOnce(&mut [u8]) -> Result<Planned, Refusal>) -> Resul
     })
 }
 
-/// Rebuilds the wanted symbols of a failed disk by a plan, which is checked on every call; all other bytes stay.
+/// Rebuilds the wanted symbols of a failed disk by a plan, which is checked on every call. All other bytes stay. What is written does
+/// not depend on what the disk's strip held.
 ///
-/// Refused: as [`check`], then 31, 32.
+/// # Errors
+///
+/// In this order: those of [`check`], [`Refusal::SymbolLength`], [`Refusal::StripeLength`].
 pub fn rebuild(sheet: &[u8], disk: u64, plan: &[u8], symbol_length: u64, stripe: &mut [u8]) -> Result<(), Refusal> {
     let verdict = ffi::rebuild(sheet, disk, plan, symbol_length, stripe);
     unless_refused(verdict.number, verdict.place, ())
@@ -225,7 +254,9 @@ pub fn rebuild(sheet: &[u8], disk: u64, plan: &[u8], symbol_length: u64, stripe:
 
 /// The strip of a disk, as a part of the stripe.
 ///
-/// Refused: the code sheet (1 to 6), 7, 31, 32.
+/// # Errors
+///
+/// In this order: the code sheet's (1 to 6), [`Refusal::NoSuchDisk`], [`Refusal::SymbolLength`], [`Refusal::StripeLength`].
 pub fn strip<'a>(sheet: &[u8], disk: u64, symbol_length: u64, stripe: &'a [u8]) -> Result<&'a [u8], Refusal> {
     let part = ffi::strip(sheet, disk, symbol_length, stripe);
     if part.length == 0 {
@@ -235,9 +266,13 @@ pub fn strip<'a>(sheet: &[u8], disk: u64, symbol_length: u64, stripe: &'a [u8]) 
     Ok(cut(stripe, part))
 }
 
-/// One symbol of an array whose disk has failed: one that survives from the stripe, a lost one from the spare strip.
+/// One symbol of an array whose disk has failed: one that survives as a part of the stripe, a lost one as a part of the spare strip,
+/// which is the failed disk's strip on another disk.
 ///
-/// Refused: the code sheet (1 to 6), 7, 31, 32, 35, 38.
+/// # Errors
+///
+/// In this order: the code sheet's (1 to 6), [`Refusal::NoSuchDisk`], [`Refusal::SymbolLength`], [`Refusal::StripeLength`],
+/// [`Refusal::SpareStripLength`], [`Refusal::NoSuchSymbol`].
 pub fn look_up<'a>(
     sheet: &[u8],
     disk: u64,
@@ -254,10 +289,10 @@ pub fn look_up<'a>(
     Ok(cut(if part.slice == 1 { spare } else { stripe }, part))
 }
 
-/// The part of a slice; the proved library never answers one that runs past the end.
+/// The part of a slice. The proved library never answers one that runs past the end.
 fn cut(slice: &[u8], part: ffi::Part) -> &[u8] {
-    let start = part.start as usize;
-    slice.get(start..start + part.length as usize).unwrap_or(&[])
+    let (start, end) = (part.start as usize, part.start.saturating_add(part.length) as usize);
+    slice.get(start..end).unwrap_or(&[])
 }
 
 fn unless_refused<T>(number: u64, place: u64, answer: T) -> Result<T, Refusal> {

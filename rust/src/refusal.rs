@@ -1,97 +1,114 @@
-//! Why a call said no: the rules' table, one case a line.
+//! Why a call said no: the table of `docs/RULES.md`, one case a line.
 use std::error::Error;
 use std::fmt;
 
-/// A refusal. Its number and place are those of the rules; a refused call changes no byte that it was lent.
+/// Why a call said no. A refused call changes no byte that it was lent.
+///
+/// Each case has a number and a place, those of `docs/RULES.md` and of the header for C. Steps, rows and positions count from 0.
 #[derive(Clone, Copy, Debug, PartialEq, Eq)]
 #[non_exhaustive]
 pub enum Refusal {
-    /// 1
+    /// Refusal 1 is given when the code sheet is shorter than its head, 6 bytes, or than its rows need. Its place is 0.
     CodeSheetTooShort,
-    /// 2
+    /// Refusal 2 is given when bytes follow the last row of the code sheet. Its place is 0.
     CodeSheetTooLong,
-    /// 3: its count isn't 4, or isn't N
+    /// Refusal 3 is given when the code sheet's first count isn't 4, or its second count isn't N. Its place is 0.
     CodeSheetCount,
-    /// 4
+    /// Refusal 4 is given when the code sheet's edition isn't 1. Its place is 0.
     CodeSheetEdition,
-    /// 5: n, r, N or K beyond a limit
+    /// Refusal 5 is given when the code sheet's n, r, N or K is outside the limits. Its place is 0.
     CodeBeyondLimit,
-    /// 6: a bit at K or above is set
+    /// Refusal 6 is given when a row of the code sheet has a bit set at K or above. Its place is row × 64 + bit.
     StrayBit {
-        /// the first row with such a bit
+        /// The first row with such a bit: a symbol's number.
         row: u64,
-        /// the lowest such bit of that row
+        /// The lowest such bit of that row.
         bit: u64,
     },
-    /// 7
+    /// Refusal 7 is given when the asked disk isn't below n. Its place is 0.
     NoSuchDisk,
-    /// 11
+    /// Refusal 11 is given when the plan sheet is shorter than its head, its list or its steps need. Its place is 0.
     PlanSheetTooShort,
-    /// 12
+    /// Refusal 12 is given when bytes follow the last step of the plan sheet. Its place is 0.
     PlanSheetTooLong,
-    /// 13: its count isn't 6, or steps above 1,024
+    /// Refusal 13 is given when the plan sheet's first count isn't 6, or it has more than 1,024 steps. Its place is 0.
     PlanSheetCount,
-    /// 14: its edition isn't 1 or 2
+    /// Refusal 14 is given when the plan sheet's edition isn't 1 or 2. Its place is 0.
     PlanSheetEdition,
-    /// 15: its n, r or K isn't the code's
+    /// Refusal 15 is given when the plan sheet's n, r or K isn't the code's. Its place is 0.
     PlanOfAnotherCode,
-    /// 16: its failed disk isn't the asked one
+    /// Refusal 16 is given when the plan sheet's failed disk isn't the asked one. Its place is 0.
     PlanOfAnotherDisk,
-    /// 17: kind above 2, a number not below N, or clear with source not 0
+    /// Refusal 17 is given when a step's kind is above 2, its target or source isn't below N, or it is a clear whose source byte
+    /// isn't 0. Its place is the step.
     MalformedStep {
-        /// its number, from 0
+        /// The step's number.
         step: u64,
     },
-    /// 18: the target isn't a wanted symbol of the failed disk
+    /// Refusal 18 is given when a step's target isn't a wanted symbol of the failed disk. Its place is the step.
     TargetNotWanted {
-        /// its number, from 0
+        /// The step's number.
         step: u64,
     },
-    /// 19: an unfilled place is used
+    /// Refusal 19 is given when a step adds to a place, or takes from a lost place, that no earlier step has filled. Its place is
+    /// the step.
     UnfilledPlaceUsed {
-        /// its number, from 0
+        /// The step's number.
         step: u64,
     },
-    /// 20: a wanted symbol is never filled
+    /// Refusal 20 is given when no step fills a wanted symbol. Its place is the lowest such row of the disk.
     NeverFilled {
-        /// the lowest such row of the disk
+        /// The row of the disk.
         row: u64,
     },
-    /// 21: a wanted symbol ends wrong
+    /// Refusal 21 is given when a wanted symbol does not come out right under this code. Its place is the lowest such row of the
+    /// disk.
     EndsWrong {
-        /// the lowest such row of the disk
+        /// The row of the disk.
         row: u64,
     },
-    /// 22: the read count isn't the true one
+    /// Refusal 22 is given when the plan sheet's read count isn't the number of distinct surviving symbols that its steps read. Its
+    /// place is the true count.
     WrongReadCount {
-        /// how many surviving symbols the plan reads
+        /// How many surviving symbols the plan reads.
         true_count: u64,
     },
-    /// 23: the list of wanted symbols has no entry or more than r, or one that doesn't rise or isn't on the failed disk
+    /// Refusal 23 is given when a list of wanted symbols has no entry or more than r, with place 0, or else when an entry isn't above
+    /// the one before it or isn't on the failed disk. Its place is then the position of the first such entry.
     BadWantedList {
-        /// of the first bad entry, from 0; 0 for a bad count, which goes first
+        /// The position in the list.
         position: u64,
     },
-    /// 31: L is 0 or above 65,536
+    /// Refusal 31 is given when a symbol's length is 0 or above 65,536. Its place is 0.
     SymbolLength,
-    /// 32: the stripe isn't N × L bytes
+    /// Refusal 32 is given when the stripe isn't N × L bytes long. Its place is 0.
     StripeLength,
-    /// 33: the data isn't K × L bytes
+    /// Refusal 33 is given when the data isn't K × L bytes long. Its place is 0.
     DataLength,
-    /// 34: plan buffer below 3,081 bytes, or 3,114 with a list of wanted symbols
+    /// Refusal 34 is given when the buffer for a plan is shorter than 3,081 bytes, or than 3,114 for a plan with a list. Its place
+    /// is 0.
     PlanBufferTooShort,
-    /// 35: the spare strip isn't r × L bytes
+    /// Refusal 35 is given when the spare strip isn't r × L bytes long. Its place is 0.
     SpareStripLength,
-    /// 36: family parameters not listed, or n, N or r above its limit
+    /// Refusal 36 is given when the family has no code with these parameters, or its n, N or r would be above the limit. Its place
+    /// is 0.
     NotInFamily,
-    /// 37: the sheet buffer is shorter than the sheet to be written
+    /// Refusal 37 is given when the buffer is shorter than the code sheet to be written. Its place is 0.
     SheetBufferTooShort,
-    /// 38: the symbol number isn't below N
+    /// Refusal 38 is given when the asked symbol isn't below N. Its place is 0.
     NoSuchSymbol,
+    /// A number that the table does not have is kept as it came, with its place. The library that this crate builds and links never
+    /// gives one; another library's refusal would still be a refusal, and never taken for a listed one.
+    Unlisted {
+        /// The number.
+        number: u64,
+        /// The place.
+        place: u64,
+    },
 }
 
 impl Refusal {
-    /// The refusal of a number and place as the proved library gives them; none for number 0.
+    /// The refusal of a number and place as the library gives them; none for number 0.
     pub(crate) fn given(number: u64, place: u64) -> Option<Refusal> {
         use Refusal::*;
         Some(match number {
@@ -124,12 +141,11 @@ impl Refusal {
             36 => NotInFamily,
             37 => SheetBufferTooShort,
             38 => NoSuchSymbol,
-            // The proved library answers no other number.
-            other => unreachable!("refusal {other} is not in the table"),
+            _ => Unlisted { number, place },
         })
     }
 
-    /// The rules' number.
+    /// Its number.
     pub fn number(&self) -> u64 {
         use Refusal::*;
         match self {
@@ -161,10 +177,11 @@ impl Refusal {
             NotInFamily => 36,
             SheetBufferTooShort => 37,
             NoSuchSymbol => 38,
+            Unlisted { number, .. } => *number,
         }
     }
 
-    /// The rules' place, 0 but where they name one.
+    /// Its place: 0, but where the case says otherwise.
     pub fn place(&self) -> u64 {
         use Refusal::*;
         match *self {
@@ -173,6 +190,7 @@ impl Refusal {
             NeverFilled { row } | EndsWrong { row } => row,
             WrongReadCount { true_count } => true_count,
             BadWantedList { position } => position,
+            Unlisted { place, .. } => place,
             CodeSheetTooShort | CodeSheetTooLong | CodeSheetCount | CodeSheetEdition | CodeBeyondLimit | NoSuchDisk => {
                 0
             }
@@ -229,6 +247,7 @@ impl fmt::Display for Refusal {
             NotInFamily => write!(f, "the family has no code with these parameters"),
             SheetBufferTooShort => write!(f, "the buffer is shorter than the code sheet"),
             NoSuchSymbol => write!(f, "the array has no such symbol"),
+            Unlisted { number, place } => write!(f, "refusal {number} at {place}, which has no name here"),
         }
     }
 }
@@ -238,27 +257,53 @@ impl Error for Refusal {}
 #[cfg(test)]
 mod tests {
     use super::Refusal;
+    use std::collections::HashSet;
+
+    /// The numbers at the head of a table's rows: those of a text's lines after the one that begins with `title`, up to `end`.
+    fn table(text: &str, title: &str, end: &str, head: std::ops::Range<usize>) -> Vec<u64> {
+        let rows = text.lines().skip_while(|line| !line.starts_with(title)).skip(1).take_while(|line| *line != end);
+        let heads = rows.map(|line| line.get(head.clone()).expect("a row of the table"));
+        heads
+            .flat_map(|head| head.split([',', ' ', '|']).filter_map(|word| word.parse().ok()).collect::<Vec<_>>())
+            .collect()
+    }
 
     /// The numbers of the table in the header for C.
-    fn table() -> Vec<u64> {
-        let header = include_str!("../../include/navorzim.h");
-        let lines = header.lines().skip_while(|line| !line.starts_with(" *   number  given when"));
-        let rows = lines.skip(1).take_while(|line| *line != " *");
-        let heads = rows.map(|line| line.get(3..11).expect("a row of the table"));
-        heads.flat_map(|head| head.split([',', ' ']).filter_map(|word| word.parse().ok()).collect::<Vec<_>>()).collect()
+    fn of_the_header() -> Vec<u64> {
+        table(include_str!("../../include/navorzim.h"), " *   number  given when", " *", 3..11)
+    }
+
+    /// Those of the table in the rules, where 23 has two rows.
+    fn of_the_rules() -> Vec<u64> {
+        let mut numbers = table(include_str!("../../docs/RULES.md"), "| no. | given when", "", 0..5);
+        numbers.dedup();
+        numbers
     }
 
     #[test]
-    fn every_number_of_the_header_has_its_refusal() {
-        let numbers = table();
-        assert_eq!(numbers.iter().max(), Some(&38));
-        assert_eq!(numbers.len(), 28);
+    fn every_number_of_the_table_has_its_refusal() {
+        let numbers = of_the_header();
+        assert_eq!(numbers, of_the_rules());
+        assert_eq!((numbers.len(), numbers.iter().max()), (28, Some(&38)));
         assert_eq!(Refusal::given(0, 0), None);
-        let mut sentences = std::collections::HashSet::new();
+        let mut sentences = HashSet::new();
         for number in numbers {
             let refusal = Refusal::given(number, 0).expect("a refusal");
+            assert!(!matches!(refusal, Refusal::Unlisted { .. }));
             assert_eq!((refusal.number(), refusal.place()), (number, 0));
             assert!(sentences.insert(refusal.to_string()), "{refusal} is said twice");
+        }
+    }
+
+    #[test]
+    fn an_unlisted_number_is_taken_for_no_other() {
+        let listed: HashSet<u64> = of_the_header().into_iter().collect();
+        let others = (1..1000).chain([u64::from(u32::MAX) + 38, u64::MAX]).filter(|number| !listed.contains(number));
+        for number in others {
+            let refusal = Refusal::given(number, 7).expect("a refusal, not an answer");
+            assert_eq!(refusal, Refusal::Unlisted { number, place: 7 });
+            assert_eq!((refusal.number(), refusal.place()), (number, 7));
+            assert!(refusal.to_string().contains(&format!("{number} at 7")));
         }
     }
 

@@ -30,7 +30,7 @@ fn sheet(random: &mut Random) -> (model::Code, Vec<u8>) {
 /// The library's plan for a disk, or for a list of its symbols.
 fn planned(sheet: &[u8], disk: usize, list: Option<&[u8]>, buffer: &mut [u8]) -> Result<Planned, Refusal> {
     match list {
-        None => navorzim::plan(sheet, disk as u64, buffer),
+        None => navorzim::plan_into(sheet, disk as u64, buffer),
         Some(list) => navorzim::plan_wanted_into(sheet, disk as u64, list, buffer),
     }
 }
@@ -194,7 +194,7 @@ enum Answer {
 fn judged_planning(sheet: &[u8], disk: u64, list: Option<&[u8]>, before: &[u8]) -> Option<Answer> {
     let mut buffer = before.to_vec();
     let answer = told(match list {
-        None => navorzim::plan(sheet, disk, &mut buffer),
+        None => navorzim::plan_into(sheet, disk, &mut buffer),
         Some(list) => navorzim::plan_wanted_into(sheet, disk, list, &mut buffer),
     });
     let context = || format!("{sheet:?} {disk} {list:?}");
@@ -533,7 +533,7 @@ fn the_longest_plan() {
     }
     buffer.push(0);
     assert_eq!(told(navorzim::check(&sheet, 0, &buffer)), Err((12, 0)));
-    assert_eq!(navorzim::plan(&sheet, 0, &mut buffer[..3081]), Ok(Planned::Plan { length: 3081, reads: 32 }));
+    assert_eq!(navorzim::plan_into(&sheet, 0, &mut buffer[..3081]), Ok(Planned::Plan { length: 3081, reads: 32 }));
 }
 
 /// The limits' far ends: N 64, K 64, r 32, n 64, L 65,536.

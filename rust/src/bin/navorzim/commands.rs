@@ -228,7 +228,7 @@ fn show(arguments: &mut Arguments) -> Result<String, Failure> {
 fn planned(code: &Code, disk: u64, request: Option<&Request>) -> Result<(Planning, Wanted), Failure> {
     let explain = |refusal| code.explain(refusal, disk, None, 0);
     let Some(request) = request else {
-        return Ok((navorzim::make_plan(&code.sheet, disk).map_err(explain)?, Wanted::Disk));
+        return Ok((navorzim::plan(&code.sheet, disk).map_err(explain)?, Wanted::Disk));
     };
     let symbols = request.symbols(code, disk);
     let planning = navorzim::plan_wanted(&code.sheet, disk, &wanted::as_bytes(&symbols));

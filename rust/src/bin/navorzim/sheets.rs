@@ -179,9 +179,9 @@ impl Plan {
                 code.data
             ),
             Refusal::PlanOfAnotherDisk => format!("the plan has {}, asked is {disk}", byte(5)),
-            Refusal::MalformedStep { step } | Refusal::TargetNotWanted { step } | Refusal::UnfilledPlaceUsed { step } => {
-                self.step_detail(step)
-            }
+            Refusal::MalformedStep { step }
+            | Refusal::TargetNotWanted { step }
+            | Refusal::UnfilledPlaceUsed { step } => self.step_detail(step),
             Refusal::PlanSheetEdition => format!("it is {}", byte(1)),
             Refusal::WrongReadCount { .. } => format!("the plan says {}", byte(6)),
             Refusal::BadWantedList { position } => {
