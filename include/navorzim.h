@@ -2,7 +2,7 @@
  *
  * The functions are in libcapi.a, which `rt staticlib capi` proves and writes to target/staticlib/ (x86-64 Linux, position independent).
  * Each of them is proved to answer, and to leave in every buffer, what its paragraph below says, for any input: no argument has to be
- * tested by the caller first. What the caller owes is under "Buffers".
+ * tested by the caller first. What the caller owes is under "Buffers". docs/RULES.md has the rules whole, with worked cases.
  *
  *
  * The parameters, in the order in which they come
@@ -25,7 +25,8 @@
  *                row s % r of disk s / r, at bytes s * L up to (s + 1) * L
  *   spare        the strip of the failed disk, on another disk            r * L bytes
  *   symbol       a symbol's number, disk * r + row                        0 to N - 1
- *   buffer       where a sheet is to be written
+ *   buffer       where a code sheet is to be written                      as long as the sheet, or longer
+ *                where a plan sheet is to be written                      3,081 bytes or more; with a list 3,114 or more
  *   .._length    the bytes of the buffer named before it
  *
  * A symbol is the XOR of the data symbols whose bits are set in its row of the generator matrix. Bit 0 is the lowest.
@@ -82,7 +83,7 @@
  *   31      L is 0 or above 65,536
  *   32      the stripe isn't N * L bytes
  *   33      the data aren't K * L bytes
- *   34      the plan buffer has fewer than 3,081 bytes, or 3,114 with a list
+ *   34      the plan buffer has fewer than 3,081 bytes, or than 3,114 with a list
  *   35      the spare strip isn't r * L bytes
  *   36      the family has no such parameters, or its n, N or r is above a limit
  *   37      the sheet buffer is shorter than the sheet to be written
@@ -96,9 +97,9 @@
  *
  * Buffers
  *
- * A buffer is a pointer and the number of bytes behind it; there is no alignment. All of them must be readable, and writable where the
+ * A buffer is a pointer and a length in bytes; no alignment is asked for. All its bytes must be readable, and writable where the
  * pointer is not to const. A buffer that a call writes must not overlap any other buffer of that call; those that it only reads may. Nobody
- * else may write any of them while the call runs. A length of 0 goes with any pointer, NULL too: nothing is read or written through it.
+ * else may write any of them while the call runs. A length of 0 may go with any pointer, NULL too: nothing is read or written through it.
  * No call keeps a pointer, allocates, does input or output, or has any state: calls on different buffers may run in as many threads as
  * there are. A code or a plan is never remembered from one call to the next; every call reads and tests its sheets anew.
  */
@@ -145,11 +146,11 @@ typedef struct {
 
 
 /* ---------------------------------------------------------------------------------------------------------------------------------
- * Codes by name. Each writes the family's code sheet, 6 + 8 * N bytes, to the front of the buffer and answers its length; the bytes behind
+ * Codes by name. Each writes the family's code sheet, 6 + 8 * N bytes, to the front of the buffer and answers its length; the bytes after
  * it stay. Data disk c, row j is data symbol c * r + j; the parity disks follow the data disks.
  * Refusals: 36, 37. */
 
-/* One parity disk, the XOR of the data disks. data_disks and rows from 1, with n = data_disks + 1 and r = rows within the limits. */
+/* One parity disk, the XOR of the data disks. data_disks is 1 to 63, rows is 1 to 32, and N = (data_disks + 1) * rows is at most 64. */
 navorzim_sheet navorzim_single_parity(uint64_t data_disks, uint64_t rows, uint8_t *buffer, size_t buffer_length);
 
 /* Liberation (Plank): w is 3, 5 or 7, data_disks 2 to w; r = w, two parity disks. */

@@ -1,0 +1,77 @@
+/* A test: NULL with length 0 for every buffer of every call, alone and all at once. Nothing may be read or written through it, and the
+ * answer is the one that a buffer of no bytes has.
+ *
+ * The array is the smallest: two disks of one symbol, each data symbol 0. Exit status 0 only if every answer is right. */
+#include <navorzim.h>
+#include <stdio.h>
+
+static const uint8_t sheet[22] = {4, 1, 2, 1, 1, 2, 1, 0, 0, 0, 0, 0, 0, 0, 1, 0, 0, 0, 0, 0, 0, 0};
+static const uint8_t plan[12] = {6, 1, 2, 1, 1, 0, 1, 1, 0, 1, 0, 1}; /* symbol 0 becomes symbol 1 */
+static const uint8_t wanted[1] = {0}, contents[1] = {7}, spare[1] = {9};
+static uint8_t stripe[2], buffer[NAVORZIM_PLAN_BYTES];
+static int wrong;
+
+/* Compares the number that a call answered with the one it must answer. */
+static void expect(const char *what, uint64_t number, uint64_t right) {
+    if (number != right) {
+        printf("wrong: %s answers %zu, not %zu\n", what, (size_t)number, (size_t)right);
+        wrong = 1;
+    }
+}
+
+static void families_and_encoding(void) {
+    expect("single parity", navorzim_single_parity(1, 1, NULL, 0).number, 37);
+    expect("Liberation", navorzim_liberation(3, 2, NULL, 0).number, 37);
+    expect("row-diagonal", navorzim_row_diagonal(3, NULL, 0).number, 37);
+    expect("encode, all", navorzim_encode(NULL, 0, 1, NULL, 0, NULL, 0).number, 1);
+    expect("encode, sheet", navorzim_encode(NULL, 0, 1, contents, 1, stripe, 2).number, 1);
+    expect("encode, data", navorzim_encode(sheet, 22, 1, NULL, 0, stripe, 2).number, 33);
+    expect("encode, stripe", navorzim_encode(sheet, 22, 1, contents, 1, NULL, 0).number, 32);
+}
+
+static void checking_and_planning(void) {
+    expect("check, all", navorzim_check(NULL, 0, 0, NULL, 0).number, 1);
+    expect("check, sheet", navorzim_check(NULL, 0, 0, plan, 12).number, 1);
+    expect("check, plan", navorzim_check(sheet, 22, 0, NULL, 0).number, 11);
+    expect("plan, all", navorzim_plan(NULL, 0, 0, NULL, 0).number, 1);
+    expect("plan, sheet", navorzim_plan(NULL, 0, 0, buffer, sizeof buffer).number, 1);
+    expect("plan, buffer", navorzim_plan(sheet, 22, 0, NULL, 0).number, 34);
+    expect("plan with a list, all", navorzim_plan_wanted(NULL, 0, 0, NULL, 0, NULL, 0).number, 1);
+    expect("plan with a list, sheet", navorzim_plan_wanted(NULL, 0, 0, wanted, 1, buffer, sizeof buffer).number, 1);
+    expect("plan with a list, list", navorzim_plan_wanted(sheet, 22, 0, NULL, 0, buffer, sizeof buffer).number, 23);
+    expect("plan with a list, buffer", navorzim_plan_wanted(sheet, 22, 0, wanted, 1, NULL, 0).number, 34);
+}
+
+static void rebuilding(void) {
+    expect("rebuild, all", navorzim_rebuild(NULL, 0, 0, NULL, 0, 1, NULL, 0).number, 1);
+    expect("rebuild, sheet", navorzim_rebuild(NULL, 0, 0, plan, 12, 1, stripe, 2).number, 1);
+    expect("rebuild, plan", navorzim_rebuild(sheet, 22, 0, NULL, 0, 1, stripe, 2).number, 11);
+    expect("rebuild, stripe", navorzim_rebuild(sheet, 22, 0, plan, 12, 1, NULL, 0).number, 32);
+}
+
+static void looking(void) {
+    expect("strip, all", navorzim_strip_verdict(NULL, 0, 0, 1, NULL, 0).number, 1);
+    expect("strip, sheet", navorzim_strip_verdict(NULL, 0, 0, 1, stripe, 2).number, 1);
+    expect("strip, stripe", navorzim_strip_verdict(sheet, 22, 0, 1, NULL, 0).number, 32);
+    expect("look up, all", navorzim_look_up_verdict(NULL, 0, 0, 1, NULL, 0, NULL, 0, 0).number, 1);
+    expect("look up, sheet", navorzim_look_up_verdict(NULL, 0, 0, 1, stripe, 2, spare, 1, 0).number, 1);
+    expect("look up, stripe", navorzim_look_up_verdict(sheet, 22, 0, 1, NULL, 0, spare, 1, 0).number, 32);
+    expect("look up, spare", navorzim_look_up_verdict(sheet, 22, 0, 1, stripe, 2, NULL, 0, 0).number, 35);
+    expect("length of no strip", navorzim_strip(NULL, 0, 0, 1, stripe, 2).length, 0);
+    expect("length of no strip", navorzim_strip(sheet, 22, 0, 1, NULL, 0).length, 0);
+    expect("length of no symbol", navorzim_look_up(NULL, 0, 0, 1, stripe, 2, spare, 1, 0).length, 0);
+    expect("length of no symbol", navorzim_look_up(sheet, 22, 0, 1, NULL, 0, spare, 1, 0).length, 0);
+    expect("length of no symbol", navorzim_look_up(sheet, 22, 0, 1, stripe, 2, NULL, 0, 0).length, 0);
+}
+
+int main(void) {
+    families_and_encoding();
+    checking_and_planning();
+    rebuilding();
+    looking();
+    /* the same array and plan, with all their bytes */
+    expect("encode", navorzim_encode(sheet, 22, 1, contents, 1, stripe, 2).number, 0);
+    expect("rebuild", navorzim_rebuild(sheet, 22, 0, plan, 12, 1, stripe, 2).number, 0);
+    if (!wrong) printf("NULL with length 0 is taken for every buffer\n");
+    return wrong;
+}
