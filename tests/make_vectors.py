@@ -1,10 +1,12 @@
-"""Writes crates/vectors/stdin and crates/vectors/stdout anew: records, and the lines that the second program expects. Then it
-writes crates/planvectors/stdin anew, the records of planning, for which it expects no line: their answers are judged.
+"""Writes vectors/stdin and vectors/stdout anew: records, and the lines that the second program expects. Then it writes
+planvectors/stdin anew, the records of planning, for which it expects no line: their answers are judged.
 
-    python3 tests/make_vectors.py
+    python3 tests/make_vectors.py           writes them to crates/
+    python3 tests/make_vectors.py FOLDER    writes them to another folder
 
 Every run writes the same files.
 """
+import sys
 from functools import partial
 from itertools import combinations, product
 from pathlib import Path
@@ -20,7 +22,7 @@ from rebuild_vectors import add_rebuild_vectors
 from records import ROOM, Vectors
 from second import Code, changed
 
-CRATE = Path(__file__).resolve().parent.parent / "crates" / "vectors"
+CRATES = Path(__file__).resolve().parent.parent / "crates"
 HUGE = (2**31, 2**32, 2**32 + 1, 2**63, 2**63 + 1, 2**64 - 1)
 
 
@@ -294,7 +296,7 @@ def add_views_order(vectors: Vectors) -> None:
         vectors.look_up("look up, order", sheet, disk, size, (stripe, spare), symbol)
 
 
-def main() -> None:
+def all_vectors() -> tuple[Vectors, Questions]:
     vectors = Vectors()
     vectors.read("square code", second.sheet_of(second.SQUARE))
     add_families(vectors)
@@ -317,9 +319,20 @@ def main() -> None:
     # The records with lists come last, so that none of the others depends on them.
     add_edition_2_vectors(vectors)
     add_list_questions(questions)
-    (CRATE / "stdin").write_bytes(b"".join(vectors.records))
-    (CRATE / "stdout").write_text("".join(line + "\n" for line in vectors.lines))
-    questions.write()
+    return vectors, questions
+
+
+def write(folder: Path, vectors: Vectors, questions: Questions) -> None:
+    for crate in ("vectors", "planvectors"):
+        (folder / crate).mkdir(parents=True, exist_ok=True)
+    (folder / "vectors" / "stdin").write_bytes(b"".join(vectors.records))
+    (folder / "vectors" / "stdout").write_text("".join(line + "\n" for line in vectors.lines))
+    (folder / "planvectors" / "stdin").write_bytes(b"".join(asked.record() for asked in questions.records))
+
+
+def main() -> None:
+    vectors, questions = all_vectors()
+    write(Path(sys.argv[1]) if len(sys.argv) > 1 else CRATES, vectors, questions)
     for kind, count in vectors.kinds.items():
         print(f"{count:5} {kind}")
     print(f"{len(vectors.records):5} records")

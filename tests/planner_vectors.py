@@ -8,7 +8,7 @@ from plan_vectors import family_codes, planted_codes, some_disks
 from plans import all_lists, restorable, some_lists, torn_codes
 from second import SQUARE, Code, changed, liberation, row_diagonal, sheet_of, single_parity
 from second_checker import lost_places
-from second_planner import BUFFER, CRATE, HALF, LIST_BUFFER, P8, P9, Asked, most_steps
+from second_planner import BUFFER, HALF, LIST_BUFFER, P8, P9, Asked, most_steps
 
 SHOWN_STEPS = 16
 """Plans are shown where no plan has more steps."""
@@ -42,10 +42,6 @@ class Questions:
     def add_lists(self, kind: str, code: Code, disk: int, lists: Iterable[Iterable[int]], **more: int) -> None:
         for listed in lists:
             self.add_list(kind, sheet_of(code), disk, listed, **{"shown": most_steps(code) <= SHOWN_STEPS, **more})
-
-    def write(self) -> None:
-        """Writes crates/planvectors/stdin anew. Its stdout is what the program printed, judged by second_planner.py."""
-        (CRATE / "stdin").write_bytes(b"".join(asked.record() for asked in self.records))
 
 
 # Codes that can be rebuilt
