@@ -1,4 +1,4 @@
-//! The tool, run as a program over temporary folders. What it must answer comes from document 01's worked cases and from the
+//! The tool, run as a program over temporary folders. What it must answer comes from the worked cases of the rules and from the
 //! independent model; after every failure the folder is compared with what it was, byte for byte.
 mod model;
 
@@ -642,6 +642,15 @@ fn pictures_are_well_formed() {
         balanced(&picture);
         fs::remove_file(folder.0.join("out")).expect("it was written");
     }
+}
+
+#[test]
+fn the_stored_picture_is_the_tools_own() {
+    let folder = Folder::new();
+    folder.done("family liberation 3 3 -o code.sheet");
+    folder.done("show code.sheet --disk 0 --svg plan.svg");
+    let stored = include_bytes!("../../docs/plan.svg");
+    assert!(folder.get("plan.svg") == stored, "docs/plan.svg isn't what `navorzim show` draws of Liberation, w 3, k 3");
 }
 
 /// Every tag is closed by its like, and nothing stands outside.
