@@ -123,6 +123,11 @@ typedef struct {
     uint64_t number, place;
 } navorzim_verdict;
 
+/* The code that was read: n, r, K and N; all 0 on a refusal. */
+typedef struct {
+    uint64_t number, place, disks, rows, data_symbols, symbols;
+} navorzim_code;
+
 /* The length of the code sheet that was written; 0 on a refusal. */
 typedef struct {
     uint64_t number, place, length;
@@ -159,6 +164,11 @@ navorzim_sheet navorzim_liberation(uint64_t w, uint64_t data_disks, uint8_t *buf
 /* Row-diagonal parity over the data disks: p is 3, 5 or 7; p - 1 data disks, r = p - 1, two parity disks. */
 navorzim_sheet navorzim_row_diagonal(uint64_t p, uint8_t *buffer, size_t buffer_length);
 
+
+/* ---------------------------------------------------------------------------------------------------------------------------------
+ * Read a code sheet: is it good, and what are its n, r, K and N? With them a caller knows how long the other buffers must be. Writes nothing.
+ * Refusals: the code sheet's. */
+navorzim_code navorzim_read_code(const uint8_t *sheet, size_t sheet_length);
 
 /* ---------------------------------------------------------------------------------------------------------------------------------
  * Encode: writes the whole stripe, N * L bytes, from the K data symbols; the data stay as they are.

@@ -16,12 +16,14 @@ from second_rebuild import rebuild
 
 FIELDS = {
     "verdict": ("number", "place"),
+    "code": ("number", "place", "disks", "rows", "data_symbols", "symbols"),
     "sheet": ("number", "place", "length"),
     "checked": ("number", "place", "reads"),
     "planned": ("number", "place", "length", "reads", "pattern"),
     "part": ("slice", "start", "length"),
 }
 ANSWERS = {
+    "read_code": "code",
     "single_parity": "sheet",
     "liberation": "sheet",
     "row_diagonal": "sheet",
@@ -72,6 +74,12 @@ def test_family(which: int, first: int, other: int, length: int) -> None:
     numbers = (first,) if name == "row_diagonal" else (first, other)
     assert ask(name, *numbers, buffer) == told(answer)
     assert buffer.raw == after
+
+
+def test_read_code(sheet: bytes) -> None:
+    code = read_code(sheet)
+    shape = (*code, 0, 0, 0, 0) if isinstance(code, Refusal) else (0, 0, code.disks, code.height, code.data_symbols, code.symbols)
+    assert ask("read_code", sheet) == shape
 
 
 def test_encode(sheet: bytes, size: int, data: bytes, stripe: bytes) -> None:
@@ -139,6 +147,7 @@ def with_faults(plan: bytes) -> list[bytes]:
 def test_array(code: Code) -> None:
     good, size = sheet_of(code), chosen((1, 2, 7))
     for sheet in (*[good] * 6, changed(good, below(len(good)), below(256)), good[:-1], good + b"\0", b""):
+        test_read_code(sheet)
         for fault in range(4):
             disk = code.disks if fault == 1 else below(code.disks)
             length = chosen((0, 65537)) if fault == 2 else size

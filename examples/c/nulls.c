@@ -20,6 +20,7 @@ static void expect(const char *what, uint64_t number, uint64_t right) {
 }
 
 static void families_and_encoding(void) {
+    expect("read a code sheet", navorzim_read_code(NULL, 0).number, 1);
     expect("single parity", navorzim_single_parity(1, 1, NULL, 0).number, 37);
     expect("Liberation", navorzim_liberation(3, 2, NULL, 0).number, 37);
     expect("row-diagonal", navorzim_row_diagonal(3, NULL, 0).number, 37);

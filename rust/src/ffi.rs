@@ -14,6 +14,18 @@ pub struct Verdict {
     pub place: u64,
 }
 
+/// A code that was read: n, r, K and N.
+#[repr(C)]
+#[derive(Clone, Copy)]
+pub struct Code {
+    pub number: u64,
+    pub place: u64,
+    pub disks: u64,
+    pub rows: u64,
+    pub data_symbols: u64,
+    pub symbols: u64,
+}
+
 /// A sheet that was written.
 #[repr(C)]
 #[derive(Clone, Copy)]
@@ -56,6 +68,7 @@ type Bytes = *const u8;
 type BytesMut = *mut u8;
 
 extern "C" {
+    fn navorzim_read_code(sheet: Bytes, sheet_length: usize) -> Code;
     fn navorzim_single_parity(data_disks: u64, rows: u64, buffer: BytesMut, buffer_length: usize) -> Sheet;
     fn navorzim_liberation(w: u64, data_disks: u64, buffer: BytesMut, buffer_length: usize) -> Sheet;
     fn navorzim_row_diagonal(p: u64, buffer: BytesMut, buffer_length: usize) -> Sheet;
@@ -130,6 +143,10 @@ extern "C" {
 }
 
 // SAFETY, for each function below: as the module's comment says.
+
+pub fn read_code(sheet: &[u8]) -> Code {
+    unsafe { navorzim_read_code(sheet.as_ptr(), sheet.len()) }
+}
 
 pub fn single_parity(data_disks: u64, rows: u64, buffer: &mut [u8]) -> Sheet {
     unsafe { navorzim_single_parity(data_disks, rows, buffer.as_mut_ptr(), buffer.len()) }

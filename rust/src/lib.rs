@@ -103,6 +103,43 @@ impl Family {
     }
 }
 
+/// The shape of a code: how many disks, rows and symbols it has.
+#[derive(Clone, Copy, Debug, PartialEq, Eq)]
+pub struct CodeShape {
+    /// n, the disks, from 2 to 64.
+    pub disks: usize,
+    /// r, the rows of each disk, from 1 to 32.
+    pub rows: usize,
+    /// K, the data symbols, from 1 to 64. For symbols of L bytes the data is K × L bytes long.
+    pub data_symbols: usize,
+    /// N = n × r, the symbols of a stripe, from 2 to 64. For symbols of L bytes a stripe is N × L bytes long.
+    pub symbols: usize,
+}
+
+/// Reads a code sheet and answers its shape. No other call needs that: each reads its sheets anew.
+///
+/// # Errors
+///
+/// The code sheet's (1 to 6).
+///
+/// ```
+/// use navorzim::{read_code, CodeShape, Family, Refusal};
+/// let sheet = Family::Liberation { w: 5, data_disks: 4 }.sheet()?;
+/// assert_eq!(read_code(&sheet)?, CodeShape { disks: 6, rows: 5, data_symbols: 20, symbols: 30 });
+/// assert_eq!(read_code(&sheet[..9]), Err(Refusal::CodeSheetTooShort));
+/// # Ok::<(), Refusal>(())
+/// ```
+pub fn read_code(sheet: &[u8]) -> Result<CodeShape, Refusal> {
+    let code = ffi::read_code(sheet);
+    let shape = CodeShape {
+        disks: code.disks as usize,
+        rows: code.rows as usize,
+        data_symbols: code.data_symbols as usize,
+        symbols: code.symbols as usize,
+    };
+    unless_refused(code.number, code.place, shape)
+}
+
 /// Encodes K data symbols of `symbol_length` bytes into the whole stripe.
 ///
 /// # Errors

@@ -140,6 +140,29 @@ fn families() {
 }
 
 #[test]
+fn reading() {
+    let mut random = Random::new(9);
+    let mut refused = [0; 7];
+    for _ in 0..calls(40_000) {
+        let (_, sheet) = sheet(&mut random);
+        let answer = told(navorzim::read_code(&sheet));
+        match model::read_code(&sheet) {
+            Err(no) => {
+                refused[no.0 as usize] += 1;
+                assert_eq!(answer, Err(no), "{sheet:?}");
+            }
+            Ok(code) => {
+                let shape = answer.unwrap_or_else(|no| panic!("refused {no:?} {sheet:?}"));
+                let numbers = [shape.disks, shape.rows, shape.data_symbols, shape.symbols];
+                assert_eq!(numbers, [code.disks, code.height, code.data, code.symbols()], "{sheet:?}");
+            }
+        }
+    }
+    println!("refused, by number: {refused:?}");
+    assert!(refused[1..].iter().all(|&count| count > 20), "{refused:?}");
+}
+
+#[test]
 fn encoding() {
     let mut random = Random::new(2);
     for _ in 0..calls(30_000) {

@@ -1,22 +1,25 @@
--- What goes out tells the answer: a verdict, what checking answered, a part. Assumes nothing.
-use mathlib.Core.Path.{_≡_, refl, sym, ap, subst, _∙_}
+-- What goes out tells the answer: a verdict, a code's shape, what checking answered, a part. Assumes nothing.
+use mathlib.Core.Path.{_≡_, refl, sym, ap, ap₂, subst, _∙_}
 use mathlib.Core.Bool.{Bool, true, false, cond}
 use mathlib.Core.List.{List}
 use mathlib.Core.Logic.{_↔_}
 use Prim.Native.Nat.{ℕ}
 use lib.Dec.{eqb}
 use Rattle.capi.proofs.NumberLaws.{number-not-0}
-use Rattle.capi.specs.Answers.{outVerdict, outSheet, outChecked, outPart, partBy}
+use Rattle.capi.specs.Answers.{outVerdict, outCode, outSheet, outChecked, outPart, partBy}
 use Rattle.capi.specs.declared.OutChecked.{OutChecked}
+use Rattle.capi.specs.declared.OutCode.{OutCode}
 use Rattle.capi.specs.declared.OutPart.{OutPart}
 use Rattle.capi.specs.declared.OutSheet.{OutSheet}
 use Rattle.capi.specs.declared.OutVerdict.{OutVerdict}
+use Rattle.codes.specs.Layouts.{symbolsOf}
 use Rattle.plans.specs.Check.{asChecked}
 use Rattle.plans.specs.declared.Checked.{Checked}
 use Rattle.families.specs.FamilySheets.{familyAnswer, familyBuffer, ReadsBack}
 use Rattle.family_codes.specs.declared.Family.{Family}
 use Rattle.refusals.specs.Orders.{Outcome, Fine, Refused, outcome, ifFine, Answer, Gives}
 use Rattle.refusals.specs.declared.Verdict.{Verdict}
+use Rattle.sheets.specs.CodeReading.{CodeRead}
 use Rattle.views.specs.Places.{nowhere, stripPart, stripPlace, sliceOf, Shows}
 use Rattle.views.specs.Views.{layoutOf, stripVerdict}
 use Rattle.views.specs.declared.Part.{Part}
@@ -33,6 +36,26 @@ fine-by-number (Verdicts.Refused refusal) e = absurd (number-not-0 refusal e)
 -- Number 0 says that nothing was refused
 pub number-0-is-fine : (verdict : Verdict) {out : OutVerdict} → out ≡ outVerdict (outcome verdict) → out .number ≡ 0 → outcome verdict ≡ Fine
 number-0-is-fine verdict told e = fine-by-number verdict (sym (ap (λ (o : OutVerdict). o .number) told) ∙ e)
+
+-- ------------------------------------------------------------------
+-- A code's shape
+
+-- The numbers of a code that was read, beside what went out of its verdict and its number of symbols
+abbrev pub shapeOf : CodeRead → OutVerdict → ℕ → OutCode
+shapeOf read out symbols =
+    record {
+      number = out .number;
+      place = out .place;
+      disks = read .code .layout .disks;
+      rows = read .code .layout .height;
+      data_symbols = read .code .data_symbols;
+      symbols = symbols;
+    }
+
+-- They are what a reading goes out as
+pub code-out : {read from : CodeRead} {out : OutVerdict} {symbols : ℕ} → out ≡ outVerdict (read .verdict) → symbols ≡ symbolsOf (read .code .layout)
+    → read ≡ from → shapeOf read out symbols ≡ outCode from
+code-out {read} told counted same = ap₂ (shapeOf read) told counted ∙ ap outCode same
 
 -- ------------------------------------------------------------------
 -- What checking answered

@@ -37,20 +37,13 @@ impl Code {
 
     /// Reads a code sheet.
     pub fn read(file: &Path, sheet: Vec<u8>) -> Result<Code, Refusal> {
-        // Asked about a plan of no bytes, the library refuses the code sheet or, if that is good, the plan: every array has a disk 0.
-        match navorzim::check(&sheet, 0, &[]) {
-            Err(refusal) if refusal.number() < 7 => return Err(refusal),
-            _ => {}
-        }
-        let [_, _, disks, rows, data, _, sums @ ..] = &sheet[..] else {
-            return Err(Refusal::CodeSheetTooShort);
-        };
-        let sums = sums.chunks_exact(8);
+        let shape = navorzim::read_code(&sheet)?;
+        let sums = sheet.get(6..).unwrap_or(&[]).chunks_exact(8);
         Ok(Code {
             file: file.to_path_buf(),
-            disks: usize::from(*disks),
-            rows: usize::from(*rows),
-            data: usize::from(*data),
+            disks: shape.disks,
+            rows: shape.rows,
+            data: shape.data_symbols,
             sums: sums.map(|row| row.iter().rev().fold(0, |sum, &byte| sum << 8 | u64::from(byte))).collect(),
             sheet,
         })
