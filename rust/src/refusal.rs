@@ -206,26 +206,7 @@ impl fmt::Display for Refusal {
     fn fmt(&self, f: &mut fmt::Formatter<'_>) -> fmt::Result {
         use Refusal::*;
         match self {
-            CodeSheetTooShort => write!(f, "the code sheet is too short"),
-            CodeSheetTooLong => write!(f, "the code sheet is too long"),
-            CodeSheetCount => {
-                write!(f, "a count of the code sheet is wrong: the first byte must be 4, byte 5 must be n × r")
-            }
-            CodeSheetEdition => write!(f, "the code sheet's edition isn't 1"),
-            CodeBeyondLimit => {
-                write!(f, "the code is beyond a limit: n is 2 to 64, r 1 to 32, n × r at most 64, K 1 to 64")
-            }
             StrayBit { row, bit } => write!(f, "row {row} of the code has bit {bit} set, which is not below K"),
-            NoSuchDisk => write!(f, "the array has no such disk"),
-            PlanSheetTooShort => write!(f, "the plan sheet is too short"),
-            PlanSheetTooLong => write!(f, "the plan sheet is too long"),
-            PlanSheetCount => write!(
-                f,
-                "a count of the plan sheet is wrong: the first byte must be 6, and there are at most 1,024 steps"
-            ),
-            PlanSheetEdition => write!(f, "the plan sheet's edition isn't 1 or 2"),
-            PlanOfAnotherCode => write!(f, "the plan was made for another layout: its n, r or K isn't the code's"),
-            PlanOfAnotherDisk => write!(f, "the plan was made for another disk"),
             MalformedStep { step } => write!(f, "step {step} is malformed"),
             TargetNotWanted { step } => write!(f, "the target of step {step} isn't a wanted symbol of the failed disk"),
             UnfilledPlaceUsed { step } => write!(f, "step {step} uses a lost place that no earlier step has filled"),
@@ -239,15 +220,43 @@ impl fmt::Display for Refusal {
             BadWantedList { position } => {
                 write!(f, "entry {position} of the list of wanted symbols doesn't rise or isn't on the failed disk")
             }
-            SymbolLength => write!(f, "a symbol is 1 to 65,536 bytes long"),
-            StripeLength => write!(f, "the stripe isn't N symbols long"),
-            DataLength => write!(f, "the data isn't K symbols long"),
-            PlanBufferTooShort => write!(f, "a plan needs a buffer of 3,081 bytes, or 3,114 with a list"),
-            SpareStripLength => write!(f, "the spare strip isn't r symbols long"),
-            NotInFamily => write!(f, "the family has no code with these parameters"),
-            SheetBufferTooShort => write!(f, "the buffer is shorter than the code sheet"),
-            NoSuchSymbol => write!(f, "the array has no such symbol"),
             Unlisted { number, place } => write!(f, "refusal {number} at {place}, which has no name here"),
+            placeless => f.write_str(placeless.sentence()),
+        }
+    }
+}
+
+impl Refusal {
+    /// The sentence of a refusal whose place is always 0.
+    fn sentence(&self) -> &'static str {
+        use Refusal::*;
+        match self {
+            CodeSheetTooShort => "the code sheet is too short",
+            CodeSheetTooLong => "the code sheet is too long",
+            CodeSheetCount => "a count of the code sheet is wrong: the first byte must be 4, byte 5 must be n × r",
+            CodeSheetEdition => "the code sheet's edition isn't 1",
+            CodeBeyondLimit => "the code is beyond a limit: n is 2 to 64, r 1 to 32, n × r at most 64, K 1 to 64",
+            NoSuchDisk => "the array has no such disk",
+            PlanSheetTooShort => "the plan sheet is too short",
+            PlanSheetTooLong => "the plan sheet is too long",
+            PlanSheetCount => {
+                "a count of the plan sheet is wrong: the first byte must be 6, and there are at most 1,024 steps"
+            }
+            PlanSheetEdition => "the plan sheet's edition isn't 1 or 2",
+            PlanOfAnotherCode => "the plan was made for another layout: its n, r or K isn't the code's",
+            PlanOfAnotherDisk => "the plan was made for another disk",
+            SymbolLength => "a symbol is 1 to 65,536 bytes long",
+            StripeLength => "the stripe isn't N symbols long",
+            DataLength => "the data isn't K symbols long",
+            PlanBufferTooShort => "a plan needs a buffer of 3,081 bytes or more, and of 3,114 or more with a list",
+            SpareStripLength => "the spare strip isn't r symbols long",
+            NotInFamily => "the family has no code with these parameters",
+            SheetBufferTooShort => "the buffer is shorter than the code sheet",
+            NoSuchSymbol => "the array has no such symbol",
+            StrayBit { .. } | MalformedStep { .. } | TargetNotWanted { .. } | UnfilledPlaceUsed { .. } => "",
+            NeverFilled { .. } | EndsWrong { .. } | WrongReadCount { .. } | BadWantedList { .. } | Unlisted { .. } => {
+                ""
+            }
         }
     }
 }
@@ -291,7 +300,7 @@ mod tests {
             let refusal = Refusal::given(number, 0).expect("a refusal");
             assert!(!matches!(refusal, Refusal::Unlisted { .. }));
             assert_eq!((refusal.number(), refusal.place()), (number, 0));
-            assert!(sentences.insert(refusal.to_string()), "{refusal} is said twice");
+            assert!(refusal.to_string().len() > 10 && sentences.insert(refusal.to_string()), "{refusal} is said twice");
         }
     }
 

@@ -92,27 +92,30 @@ pub fn family(name: &str, a: u64, b: u64) -> Result<Vec<u8>, No> {
     }
     places.extend((0..height).map(|i| (0..data_disks).map(|c| (c, i)).collect()));
     if parities == 2 {
-        for i in 0..height {
-            let mut q = HashSet::new();
-            for c in 0..data_disks {
-                if name == "liberation" {
-                    let w = height;
-                    q.insert((c, (i + c) % w));
-                    if c > 0 && (c * (w - 1) / 2) % w == i {
-                        q.insert((c, (i + c - 1) % w));
-                    }
-                } else {
-                    let p = height + 1;
-                    q.extend((0..height).filter(|j| (j + c) % p == i % p).map(|j| (c, j)));
-                }
-            }
-            places.push(q);
-        }
+        places.extend((0..height).map(|i| diagonal(name, data_disks, height, i)));
     }
     let data = data_disks * height;
     let rows: Vec<Row> =
         places.iter().map(|set| (0..data).map(|t| set.contains(&(t / height, t % height))).collect()).collect();
     Ok(Code { disks: data_disks + parities, height, data, rows }.sheet())
+}
+
+/// Row i of the second parity disk.
+fn diagonal(name: &str, data_disks: usize, height: usize, i: usize) -> HashSet<(usize, usize)> {
+    let mut q = HashSet::new();
+    for c in 0..data_disks {
+        if name == "liberation" {
+            let w = height;
+            q.insert((c, (i + c) % w));
+            if c > 0 && (c * (w - 1) / 2) % w == i {
+                q.insert((c, (i + c - 1) % w));
+            }
+        } else {
+            let p = height + 1;
+            q.extend((0..height).filter(|j| (j + c) % p == i % p).map(|j| (c, j)));
+        }
+    }
+    q
 }
 
 fn symbol_length(size: u64) -> Result<usize, No> {

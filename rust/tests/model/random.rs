@@ -41,12 +41,7 @@ impl Random {
 /// A code within the limits: dense, sparse, of low rank, with zero or equal rows, with identity rows, or a family's.
 pub fn code(random: &mut Random) -> Code {
     if random.one_in(4) {
-        let sheet = match random.below(3) {
-            0 => super::family("liberation", 5, 2 + random.below(4) as u64),
-            1 => super::family("row-diagonal", random.pick(&[3, 5, 7]), 0),
-            _ => super::family("single parity", 1 + random.below(8) as u64, 1 + random.below(7) as u64),
-        };
-        return super::read_code(&sheet.expect("listed")).expect("a family's sheet is good");
+        return family(random);
     }
     let (disks, height) = loop {
         let (most_disks, most_rows) = (random.pick(&[9, 9, 9, 63]), random.pick(&[8, 8, 8, 32]));
@@ -81,6 +76,16 @@ pub fn code(random: &mut Random) -> Code {
         }
     }
     Code { disks, height, data, rows }
+}
+
+/// A family's code.
+fn family(random: &mut Random) -> Code {
+    let sheet = match random.below(3) {
+        0 => super::family("liberation", 5, 2 + random.below(4) as u64),
+        1 => super::family("row-diagonal", random.pick(&[3, 5, 7]), 0),
+        _ => super::family("single parity", 1 + random.below(8) as u64, 1 + random.below(7) as u64),
+    };
+    super::read_code(&sheet.expect("listed")).expect("a family's sheet is good")
 }
 
 /// A sheet with something wrong with it, or two things: a byte changed, cut, lengthened, or random bytes.
