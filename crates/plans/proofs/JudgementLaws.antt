@@ -18,7 +18,7 @@ use Rattle.codes.specs.declared.Layout.{Layout}
 use Rattle.codes.proofs.LayoutLaws.{strip-within, onDisk-above, onDisk-before}
 use Rattle.gf2.specs.Plans.{run, Within, PlacesBelow, extend, WellFormed, done, next, Accepted}
 use Rattle.gf2.specs.Selection.{Below}
-use Rattle.gf2.specs.Stripes.{Valid, runOnStripe, SameSymbols}
+use Rattle.gf2.specs.Stripes.{Valid, runOnStripe, SameSymbols, RestoresStripes}
 use Rattle.gf2.proofs.Booleans.{and-left, and-right, and-true-if-both}
 use Rattle.gf2.proofs.Columns.{length-runOnStripe}
 use Rattle.gf2.proofs.PlanLaws.{run-take}
@@ -347,6 +347,14 @@ module _ (code : Code) (within : WithinLimits code) (disk : ℕ) (disk-below : d
         (none-holds-join heads lists (fine-means-none-holds Fine heads (head-fine-if-fits code disk (plan .head) fits) .1)
         (no-fault-if-good _ _ (lost (code .layout) disk) (plan .wanted) (λ position. 23 at position) good))
 
+    -- A plan that gf2 accepts restores stripes of every symbol length
+    restores-every-length : WantedGood code disk plan → AcceptedFor code disk plan → (L : ℕ)
+        → RestoresStripes L (code .data_symbols) (matrix code) (survives (code .layout) disk) (wantedBy code disk plan) (stepsOf plan)
+    restores-every-length good accepted L =
+        accepted-restores-stripes (matrix code) (wantedBy code disk plan) (survives (code .layout) disk) (wantedBy code disk plan) (stepsOf plan)
+        (λ s is-wanted. matrix-lost-below s (wanted-is-lost (code .layout) disk disk-below (plan .head .edition) (plan .wanted) good s is-wanted))
+        matrix-survives-below accepted L (code .data_symbols)
+
     -- A plan whose head fits, whose wanted list is good, whose steps are formed, which gf2 accepts and whose stated count is true deserves acceptance
     pub deserves-if-rules-kept : HeadFits code disk (plan .head) → WantedGood code disk plan → EachFormed (symbols code) (plan .steps) → AcceptedFor code disk plan
         → plan .head .reads ≡ trueReadCount (symbols code) (survives (code .layout) disk) (stepsOf plan) → Deserves code disk plan (plan .head .reads)
@@ -356,17 +364,10 @@ module _ (code : Code) (within : WithinLimits code) (disk : ℕ) (disk-below : d
           wanted-good = good;
           each-formed = each-formed;
           uses-known = accepted .well-formed;
-          restores =
-              λ L L-positive.
-              accepted-restores-stripes (matrix code) (wantedBy code disk plan) (survives (code .layout) disk) (wantedBy code disk plan) (stepsOf plan)
-              (matrix-wanted-below good) matrix-survives-below accepted L (code .data_symbols);
+          restores = λ L L-from L-to. restores-every-length good accepted L;
           stated-count = refl;
           true-count = sym true-count;
         }
-      where
-        matrix-wanted-below : WantedGood code disk plan → PlacesBelow (length (matrix code)) (wantedBy code disk plan)
-        matrix-wanted-below list-good s is-wanted =
-            matrix-lost-below s (wanted-is-lost (code .layout) disk disk-below (plan .head .edition) (plan .wanted) list-good s is-wanted)
 
     -- A fine verdict means that every rule is kept
     plan-fine : planVerdict code disk plan ≡ Fine
@@ -468,8 +469,13 @@ module _ (code : Code) (within : WithinLimits code) (disk : ℕ) (disk-below : d
           accepted-if-restores-stripes (matrix code) (wantedBy code disk plan) (survives (code .layout) disk) (wantedBy code disk plan) (stepsOf plan)
           wanted-in-matrix matrix-survives-below 1 (code .data_symbols) (omega arith) matrix-below (deserves .uses-known)
           (restores-means-filled (matrix code) (wantedBy code disk plan) (survives (code .layout) disk) (wantedBy code disk plan) (stepsOf plan)
-          wanted-in-matrix matrix-survives-below 1 (code .data_symbols) (omega arith) (deserves .uses-known) wanted-in-matrix (deserves .restores 1 (omega arith)))
-          (deserves .restores 1 (omega arith))
+          wanted-in-matrix matrix-survives-below 1 (code .data_symbols) (omega arith) (deserves .uses-known) wanted-in-matrix (deserves .restores 1 (omega arith) (omega arith)))
+          (deserves .restores 1 (omega arith) (omega arith))
+
+      -- A plan that deserves acceptance restores stripes of every symbol length, also of those beyond document 01's limit
+      pub deserving-restores-every-length : (L : ℕ)
+          → RestoresStripes L (code .data_symbols) (matrix code) (survives (code .layout) disk) (wantedBy code disk plan) (stepsOf plan)
+      deserving-restores-every-length = restores-every-length (deserves .wanted-good) accepted-if-deserves
 
       -- A plan that deserves acceptance has a fine verdict
       pub fine-if-deserves : planVerdict code disk plan ≡ Fine
