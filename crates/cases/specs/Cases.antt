@@ -42,14 +42,23 @@ wantedPlan reads rest = 6 ∷ 2 ∷ 4 ∷ 2 ∷ 4 ∷ 0 ∷ reads ∷ rest
 abbrev pub stepsOfSymbol0 : List ℕ
 stepsOfSymbol0 = 2 ∷ 0 ∷ 1 ∷ 0 ∷ 2 ∷ 2 ∷ 0 ∷ 4 ∷ []
 
--- `code 4 2 4`, `disk 0`, `accepted`, `reads 3`
-abbrev pub squareLines : List ℕ
-squareLines =
+-- `code 4 2 4`, `disk 0`, and the answer's lines
+abbrev pub squareLines : List ℕ → List ℕ
+squareLines answer =
     99 ∷ 111 ∷ 100 ∷ 101 ∷ 32 ∷ 52 ∷ 32 ∷ 50 ∷ 32 ∷ 52 ∷ 10
     ∷ 100 ∷ 105 ∷ 115 ∷ 107 ∷ 32 ∷ 48 ∷ 10
-    ∷ 97 ∷ 99 ∷ 99 ∷ 101 ∷ 112 ∷ 116 ∷ 101 ∷ 100 ∷ 10
+    ∷ answer
+
+-- `accepted`, `reads 3`
+abbrev pub acceptedWith3 : List ℕ
+acceptedWith3 =
+    97 ∷ 99 ∷ 99 ∷ 101 ∷ 112 ∷ 116 ∷ 101 ∷ 100 ∷ 10
     ∷ 114 ∷ 101 ∷ 97 ∷ 100 ∷ 115 ∷ 32 ∷ 51 ∷ 10
     ∷ []
+
+-- `refused 22 at 3`
+abbrev pub refused22At3 : List ℕ
+refused22At3 = 114 ∷ 101 ∷ 102 ∷ 117 ∷ 115 ∷ 101 ∷ 100 ∷ 32 ∷ 50 ∷ 50 ∷ 32 ∷ 97 ∷ 116 ∷ 32 ∷ 51 ∷ 10 ∷ []
 
 -- A row by its bits
 abbrev pub withBits : List ℕ → ℕ
@@ -126,7 +135,9 @@ rulesCases =
     (0xFF ∷ 0xFF ∷ 0x44 ∷ 0x88 ∷ 0x55 ∷ 0xAA ∷ 0x99 ∷ 0x66 ∷ [])
     (0x11 ∷ 0x22 ∷ 0x44 ∷ 0x88 ∷ 0x55 ∷ 0xAA ∷ 0x99 ∷ 0x66 ∷ [])
     -- .. and the desk prints `code 4 2 4`, `disk 0`, `accepted`, `reads 3`, each on a line, and nothing else
-    ∷ prints (0 ∷ 70 ∷ 0 ∷ square ++ squarePlan 3 1 0 7) squareLines
+    ∷ prints (0 ∷ 70 ∷ 0 ∷ square ++ squarePlan 3 1 0 7) (squareLines acceptedWith3)
+    -- .. for a refusal the last two lines are one, as `refused 22 at 3`
+    ∷ prints (0 ∷ 70 ∷ 0 ∷ square ++ squarePlan 4 1 0 7) (squareLines refused22At3)
     -- P3: count 4
     ∷ answers square 0 (squarePlan 4 1 0 7) (Refuses (22 at 3))
     -- P4: last source 06
