@@ -7,8 +7,8 @@ ghost use Rattle.lists.specs.Lists.{listOrder};
 ghost use Rattle.plans.specs.Judgement.{leastWanted};
 ghost use Rattle.refusals.specs.Orders.{Fine, outcome, andThen, firstOf, outcomeOf};
 ghost use Rattle.refusals.specs.Refusals.{_at_};
-ghost use Rattle.planner.specs.Planning.{wholeDisk, listedOn, leastBuffer, roomFaults, planningFaults, planningVerdict, asPlanned, bytesWritten, replacedFront};
-ghost use Rattle.planner.specs.Demand3.{Demand3, PlansWhereAnyCould, Promised};
+ghost use Rattle.planner.specs.Planning.{wholeDisk, listedOn, leastBuffer, roomFaults, planningFaults, planningVerdict, asPlanned, BufferLeft};
+ghost use Rattle.planner.specs.Demand3.{Demand3, PlansWhereAnyCould, RulesSayDemand2, Promised};
 ghost use Rattle.planner.specs.Work.{Workable, Worked};
 ghost use Rattle.writing.specs.PlanSheets.{EditionFits};
 
@@ -161,9 +161,10 @@ fn plan_asked(
 // Plans the rebuild of a disk: an edition 1 plan sheet at the front of the buffer, or a pattern and nothing written. A refusal changes no byte.
 pub fn plan(sheet: &[u8], disk: usize, buffer: &mut [u8]) -> Planned
     ensures refusal { λ r. ⌜ outcomeOf (asPlanned r) ≡ planningVerdict (now (sheet .entry)) (wholeDisk disk) (length (now (buffer .entry))) ⌝ }
-    ensures buffer { λ r. ⌜ now (buffer .exit) ≡ replacedFront (bytesWritten (asPlanned r)) (now (buffer .exit)) (now (buffer .entry)) ⌝ }
+    ensures buffer { λ r. ⌜ BufferLeft (now (buffer .entry)) (now (buffer .exit)) (asPlanned r) ⌝ }
     ensures demand3 { λ r. ⌜ Demand3 (now (sheet .entry)) (wholeDisk disk) (now (buffer .exit)) (asPlanned r) ⌝ }
     ensures exactly { λ r. ⌜ PlansWhereAnyCould (now (sheet .entry)) (wholeDisk disk) (length (now (buffer .entry))) (asPlanned r) ⌝ }
+    ensures rules { λ r. ⌜ RulesSayDemand2 (now (sheet .entry)) (wholeDisk disk) (length (now (buffer .entry))) ⌝ }
 {
     plan_asked(sheet, 1, disk, &sheet[0..0], buffer)
 }
@@ -171,9 +172,10 @@ pub fn plan(sheet: &[u8], disk: usize, buffer: &mut [u8]) -> Planned
 // Plans the rebuild of the listed symbols of a disk alone: an edition 2 plan sheet that wants exactly these, or a pattern. A refusal changes no byte.
 pub fn plan_wanted(sheet: &[u8], disk: usize, wanted: &[u8], buffer: &mut [u8]) -> Planned
     ensures refusal { λ r. ⌜ outcomeOf (asPlanned r) ≡ planningVerdict (now (sheet .entry)) (listedOn disk (now (wanted .entry))) (length (now (buffer .entry))) ⌝ }
-    ensures buffer { λ r. ⌜ now (buffer .exit) ≡ replacedFront (bytesWritten (asPlanned r)) (now (buffer .exit)) (now (buffer .entry)) ⌝ }
+    ensures buffer { λ r. ⌜ BufferLeft (now (buffer .entry)) (now (buffer .exit)) (asPlanned r) ⌝ }
     ensures demand3 { λ r. ⌜ Demand3 (now (sheet .entry)) (listedOn disk (now (wanted .entry))) (now (buffer .exit)) (asPlanned r) ⌝ }
     ensures exactly { λ r. ⌜ PlansWhereAnyCould (now (sheet .entry)) (listedOn disk (now (wanted .entry))) (length (now (buffer .entry))) (asPlanned r) ⌝ }
+    ensures rules { λ r. ⌜ RulesSayDemand2 (now (sheet .entry)) (listedOn disk (now (wanted .entry))) (length (now (buffer .entry))) ⌝ }
 {
     plan_asked(sheet, 2, disk, wanted, buffer)
 }

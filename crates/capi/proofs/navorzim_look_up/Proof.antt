@@ -16,7 +16,7 @@ returns c =
     let args = c .before .before .before .before .before .args in
     let place = c .before .symbol-place in
     let told = c .out-part .ensures in
-    (told ∙ ap outPart (place .ensures .0), shows-out-of-two (args .stripe .now) (args .spare .now) told (place .ensures .1))
+    record { goes-out = told ∙ ap outPart (place .ensures .0); shows = shows-out-of-two (args .stripe .now) (args .spare .now) told (place .ensures .1) }
 
 pub navorzim-look-up-spec : {M : Type 1} → statement M
 navorzim-look-up-spec = tie.close (tie.spec symbol-place-requires out-part-requires returns)
