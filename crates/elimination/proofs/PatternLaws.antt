@@ -7,12 +7,12 @@ use lib.Bits.{bitXor, xor-zero-r}
 use lib.ListN.{length, getD, set, replicate, length-append, length-replicate, List·getD-eq-default}
 use Rattle.gf2.specs.BitSets.{with, overlap}
 use Rattle.gf2.specs.Selection.{scale}
-use Rattle.gf2.specs.Elimination.{pivotFor, reducePattern, reducePatterns, units, StartsWithUnits}
+use Rattle.gf2.specs.InnerElimination.{pivotFor, reducePattern, reducePatterns, units, StartsWithUnits}
 use Rattle.gf2.proofs.EliminationLaws.{getD-reducePatterns, length-units, getD-units}
 use Rattle.gf2.proofs.OverlapLaws.{overlap-zero-left}
 use Rattle.gf2.proofs.SetLaws.{with-of-empty}
 use Rattle.gf2.proofs.StoreLaws.{overwritten, overwritten-more, overwritten-enough}
-use Rattle.elimination.specs.Patterns.{unitPatterns, ZeroBehind}
+use Rattle.elimination.specs.InnerPatterns.{unitPatterns, ZeroBehind}
 
 -- ------------------------------------------------------------------
 -- Unit patterns

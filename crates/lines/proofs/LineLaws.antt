@@ -14,7 +14,7 @@ use Rattle.plans.specs.Check.{checked}
 use Rattle.codes.specs.declared.Code.{Code}
 use Rattle.lines.specs.Lines.{codeSheetIn, planSheetIn, diskIn, linesOf, deskText, writtenLength, writtenOver}
 use Rattle.texts.specs.Lines.{codeLine, refusalLine}
-use Rattle.texts.specs.Texts.{textOf, Holds}
+use Rattle.texts.specs.InnerTexts.{textOf, Holds}
 use Rattle.texts.specs.declared.Text.{Text}
 use Rattle.texts.proofs.TextLaws.{length-textOf}
 use Rattle.refusals.specs.Refusals.{Numbered}
@@ -106,7 +106,7 @@ copied-as text piece out held e f = (
   e ∙ ap (λ (l : List ℕ). writtenLength l out) (held .holds),
   (
     f ∙ ap (λ (l : List ℕ). writtenOver l out) (held .holds),
-    omega (arith, held .len-to, length-textOf text (held .size) (held .len-to), ap length (held .holds)),
+    omega (arith, held .len-to, length-textOf text (held .whole) (held .len-to), ap length (held .holds)),
   ),
 )
 

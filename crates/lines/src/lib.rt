@@ -7,7 +7,7 @@ ghost use Rattle.refusals.specs.Refusals.{numbered};
 ghost use Rattle.refusals.specs.Orders.{Fine};
 ghost use Rattle.plans.specs.Check.{asChecked};
 ghost use Rattle.texts.specs.Lines.{refusalLine};
-ghost use Rattle.texts.specs.Texts.{textOf, HasRoom, Extended, Holds};
+ghost use Rattle.texts.specs.InnerTexts.{textOf, HasRoom, Extended, Holds};
 use checker::Checked;
 use checker::check;
 use codes::Code;

@@ -14,18 +14,18 @@ use Rattle.plans.proofs.JudgementLaws.{lost-below, wanted-is-lost}
 use Rattle.codes.specs.Codes.{symbols}
 use Rattle.codes.specs.declared.Code.{Code}
 use Rattle.codes.proofs.LayoutLaws.{height-of-at-most}
-use Rattle.elimination.specs.Patterns.{unitPatterns}
+use Rattle.elimination.specs.InnerPatterns.{unitPatterns}
 use Rattle.gf2.specs.BitSets.{has}
-use Rattle.gf2.specs.Elimination.{remaining, pivots, backSubstitute}
+use Rattle.gf2.specs.InnerElimination.{remaining, pivots, backSubstitute}
 use Rattle.gf2.specs.Plans.{Within}
 use Rattle.gf2.specs.declared.Step.{Step}
 use Rattle.gf2.proofs.Booleans.{bool-cases}
 use Rattle.gf2.proofs.SubsetPlanLaws.{planOf-same}
-use Rattle.writing.specs.PlanSheets.{EditionFits, headFor, headBytes, planSheet, stepsLength, symbolsIn, subsetPlan, sourceCount, PlanFits}
+use Rattle.writing.specs.InnerPlanSheets.{EditionFits, headFor, headBytes, planSheet, stepsLength, symbolsIn, subsetPlan, sourceCount, PlanFits}
 use Rattle.planner.specs.Planning.{Asked, leastBuffer, APlan, APattern}
 use Rattle.refusals.specs.Orders.{Gives}
 use Rattle.planner.specs.Demand3.{askedSymbols, CannotBeRebuilt}
-use Rattle.planner.specs.Work.{oddPattern, FilledTo, Workable, RightSteps, Worked}
+use Rattle.planner.specs.InnerWork.{oddPattern, FilledTo, Workable, RightSteps, Worked}
 use Rattle.planner.proofs.StripLaws.{filled-are-survivors}
 use Rattle.planner.proofs.WorkLaws.{surviving, left, targets, target-wanted, matrix-row, subsetFor-row-below, subsetOf, stepsFound, found-rules-plans-out, steps-right}
 
@@ -159,15 +159,15 @@ module _ (code : Code) (asked : Asked) {room : ℕ} (workable : Workable code as
             }
 
         -- A sheet written from them is a good plan's
-        pub worked-plan : {size reads : ℕ} {before after : List ℕ}
-            → size ≡ headBytes (asked .edition) (asked .wanted) + stepsLength (length (subsetPlan (symbols code) (has wanted) subsets))
+        pub worked-plan : {sheetBytes reads : ℕ} {before after : List ℕ}
+            → sheetBytes ≡ headBytes (asked .edition) (asked .wanted) + stepsLength (length (subsetPlan (symbols code) (has wanted) subsets))
             → reads ≡ sourceCount (symbols code) (subsetPlan (symbols code) (has wanted) subsets)
-            → after ≡ planSheet (headFor (asked .edition) (code .layout) (code .data_symbols) (asked .disk) reads) (asked .wanted) (subsetPlan (symbols code) (has wanted) subsets) ++ drop size before
-            → Worked code asked before after (Gives (APlan size reads))
-        worked-plan size-is reads-are first-sheet =
+            → after ≡ planSheet (headFor (asked .edition) (code .layout) (code .data_symbols) (asked .disk) reads) (asked .wanted) (subsetPlan (symbols code) (has wanted) subsets) ++ drop sheetBytes before
+            → Worked code asked before after (Gives (APlan sheetBytes reads))
+        worked-plan length-is reads-are first-sheet =
             record {
               steps = subsetPlan (symbols code) (has wanted) subsets;
               right = subst (λ (count : ℕ). RightSteps code asked count (subsetPlan (symbols code) (has wanted) subsets)) (sym reads-are) subset-steps-right;
-              size-is = size-is;
+              length-is = length-is;
               sheet-first = first-sheet;
             }

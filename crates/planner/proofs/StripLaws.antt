@@ -16,12 +16,12 @@ use Rattle.codes.specs.Layouts.{symbolsOf, firstSymbol, heightOf, onDisk}
 use Rattle.codes.specs.declared.Layout.{Layout}
 use Rattle.codes.proofs.LayoutLaws.{strip-within, onDisk-above, onDisk-before}
 use Rattle.gf2.specs.Plans.{Within}
-use Rattle.gf2.specs.SubsetPlans.{survivors, countKnown}
+use Rattle.gf2.specs.InnerSubsetPlans.{survivors, countKnown}
 use Rattle.gf2.proofs.Booleans.{bool-cases}
 use Rattle.gf2.proofs.PlanningLaws.{getD-survivors, length-survivors}
 use Rattle.gf2.proofs.SubsetPlanLaws.{countKnown-add, countKnown-all, countKnown-none}
-use Rattle.writing.specs.PlanSheets.{symbolsIn}
-use Rattle.planner.specs.Work.{FilledTo}
+use Rattle.writing.specs.InnerPlanSheets.{symbolsIn}
+use Rattle.planner.specs.InnerWork.{FilledTo}
 
 -- ------------------------------------------------------------------
 -- The symbols of a set

@@ -1,3 +1,3 @@
 pub mod Planning
 pub mod Demand3
-pub mod Work
+pub mod InnerWork

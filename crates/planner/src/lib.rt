@@ -9,8 +9,8 @@ ghost use Rattle.refusals.specs.Orders.{Fine, outcome, andThen, firstOf, outcom
 ghost use Rattle.refusals.specs.Refusals.{_at_};
 ghost use Rattle.planner.specs.Planning.{wholeDisk, listedOn, leastBuffer, roomFaults, planningFaults, planningVerdict, asPlanned, BufferLeft};
 ghost use Rattle.planner.specs.Demand3.{Demand3, PlansWhereAnyCould, RulesSayDemand2, Promised};
-ghost use Rattle.planner.specs.Work.{Workable, Worked};
-ghost use Rattle.writing.specs.PlanSheets.{EditionFits};
+ghost use Rattle.planner.specs.InnerWork.{Workable, Worked};
+ghost use Rattle.writing.specs.InnerPlanSheets.{EditionFits};
 
 mod sets;
 

@@ -16,14 +16,14 @@ use Rattle.codes.specs.Layouts.{symbolsOf, firstSymbol, heightOf, onDisk}
 use Rattle.codes.specs.declared.Code.{Code}
 use Rattle.codes.specs.declared.Layout.{Layout}
 use Rattle.codes.proofs.LayoutLaws.{strip-within, onDisk-above, onDisk-before}
-use Rattle.gf2.specs.Plans.{run, Within, PlacesBelow, extend, WellFormed, done, next, Accepted}
+use Rattle.gf2.specs.Plans.{run, Within, PlacesBelow, extend, UsesOnlyKnown, done, next, Accepted}
 use Rattle.gf2.specs.Selection.{Below}
 use Rattle.gf2.specs.Stripes.{Valid, runOnStripe, SameSymbols, RestoresStripes}
 use Rattle.gf2.proofs.Booleans.{and-left, and-right, and-true-if-both}
 use Rattle.gf2.proofs.Columns.{length-runOnStripe}
 use Rattle.gf2.proofs.PlanLaws.{run-take}
 use Rattle.gf2.proofs.SearchLaws.{firstFrom-none, none-if-firstFrom-behind}
-use Rattle.gf2.proofs.StripeLaws.{wellFormed-names-below, accepted-restores-stripes, accepted-gives-stripe-back, accepted-depends-on-known, runOnStripe-keeps-unwritable, accepted-if-restores-stripes, restores-means-filled}
+use Rattle.gf2.proofs.StripeLaws.{usesOnlyKnown-names-below, accepted-restores-stripes, accepted-gives-stripe-back, accepted-depends-on-known, runOnStripe-keeps-unwritable, accepted-if-restores-stripes, restores-means-filled}
 use Rattle.lists.specs.Lists.{GoodList, listed}
 use Rattle.lists.proofs.ListLaws.{good-if-no-fault, no-fault-if-good, listed-passes}
 use Rattle.refusals.specs.Orders.{firstOf, ifFine, Outcome, Fine, Refused}
@@ -108,31 +108,31 @@ module _ (count : ℕ) (wanted : ℕ → Bool) where
       rw same (fine-means-none-holds Fine (stepFaults count wanted known number first) (both-fine here _ e .0) .1 .0)
   each-formed-if-fine known number (first ∷ steps) e s (List·Memᴰ·tail m) =
       let here = firstOf (stepFaults count wanted known number first) in
-      each-formed-if-fine (extend known (first .place)) (suc number) steps (both-fine here _ e .1) s m
+      each-formed-if-fine (extend known (first .target)) (suc number) steps (both-fine here _ e .1) s m
 
   -- and that the plan uses only surviving symbols or places already filled
-  wellFormed-if-fine : (known : ℕ → Bool) (number : ℕ) (steps : List SheetStep) → stepsVerdict count wanted known number steps ≡ Fine
-      → WellFormed wanted known (map stepOf steps)
+  usesOnlyKnown-if-fine : (known : ℕ → Bool) (number : ℕ) (steps : List SheetStep) → stepsVerdict count wanted known number steps ≡ Fine
+      → UsesOnlyKnown wanted known (map stepOf steps)
   unfolding stepsVerdict
-  wellFormed-if-fine known number [] e = done
-  wellFormed-if-fine known number (s ∷ steps) e =
+  usesOnlyKnown-if-fine known number [] e = done
+  usesOnlyKnown-if-fine known number (s ∷ steps) e =
       let both = both-fine (firstOf (stepFaults count wanted known number s)) _ e in
       let none = fine-means-none-holds Fine (stepFaults count wanted known number s) (both .0) .1 in
       next (ap wanted (target-stepOf s) ∙ not-false _ (none .1 .0)) (not-false _ (none .1 .1 .0))
-      (subst (λ (t : ℕ). WellFormed wanted (extend known t) (map stepOf steps)) (sym (target-stepOf s))
-      (wellFormed-if-fine (extend known (s .place)) (suc number) steps (both .1)))
+      (subst (λ (t : ℕ). UsesOnlyKnown wanted (extend known t) (map stepOf steps)) (sym (target-stepOf s))
+      (usesOnlyKnown-if-fine (extend known (s .target)) (suc number) steps (both .1)))
 
   -- Steps that are well formed and use only what is known have a fine verdict
-  steps-fine-if-wellFormed : (known : ℕ → Bool) (number : ℕ) (steps : List SheetStep) → EachFormed count steps
-      → WellFormed wanted known (map stepOf steps) → stepsVerdict count wanted known number steps ≡ Fine
+  steps-fine-if-usesOnlyKnown : (known : ℕ → Bool) (number : ℕ) (steps : List SheetStep) → EachFormed count steps
+      → UsesOnlyKnown wanted known (map stepOf steps) → stepsVerdict count wanted known number steps ≡ Fine
   unfolding stepsVerdict
-  steps-fine-if-wellFormed known number [] formed uses = refl
-  steps-fine-if-wellFormed known number (s ∷ steps) formed (next writes is-ready rest) =
-      let target-wanted : not (wanted (s .place)) ≡ false = ap not (ap wanted (sym (target-stepOf s)) ∙ writes) in
+  steps-fine-if-usesOnlyKnown known number [] formed uses = refl
+  steps-fine-if-usesOnlyKnown known number (s ∷ steps) formed (next writes is-ready rest) =
+      let target-wanted : not (wanted (s .target)) ≡ false = ap not (ap wanted (sym (target-stepOf s)) ∙ writes) in
       fine-if-both
       (none-holds-means-fine (stepFaults count wanted known number s) (formed s (List·Memᴰ·head refl), (target-wanted, (ap not is-ready, tt))))
-      (steps-fine-if-wellFormed (extend known (s .place)) (suc number) steps (λ q m. formed q (List·Memᴰ·tail m))
-      (subst (λ (t : ℕ). WellFormed wanted (extend known t) (map stepOf steps)) (target-stepOf s) rest))
+      (steps-fine-if-usesOnlyKnown (extend known (s .target)) (suc number) steps (λ q m. formed q (List·Memᴰ·tail m))
+      (subst (λ (t : ℕ). UsesOnlyKnown wanted (extend known t) (map stepOf steps)) (target-stepOf s) rest))
 
 -- ------------------------------------------------------------------
 -- The wanted symbols
@@ -163,11 +163,11 @@ pub record RulesKept (rows : List ℕ) (count : ℕ) (survives wanted : ℕ → 
 
 module _ (rows : List ℕ) (count : ℕ) (survives wanted : ℕ → Bool) (origin : ℕ) (sets : SetsWithin count survives wanted origin) (steps : List SheetStep) (stated : ℕ) where
   -- Run on the rows of the symbols, the steps give each symbol what they give it run on all rows
-  run-on-symbols : WellFormed wanted survives (map stepOf steps) → (t : ℕ) → t < count
+  run-on-symbols : UsesOnlyKnown wanted survives (map stepOf steps) → (t : ℕ) → t < count
       → getD (run (map stepOf steps) (take count rows)) t 0 ≡ getD (run (map stepOf steps) rows) t 0
   run-on-symbols formed t h =
       ap (λ (l : List ℕ). getD l t 0)
-      (run-take count (map stepOf steps) rows (wellFormed-names-below count (sets .wanted-below) formed (sets .survives-below)))
+      (run-take count (map stepOf steps) rows (usesOnlyKnown-names-below count (sets .wanted-below) formed (sets .survives-below)))
       ∙ getD-take count (run (map stepOf steps) rows) t 0 h
 
   -- A fine judgement means that every rule is kept
@@ -176,12 +176,12 @@ module _ (rows : List ℕ) (count : ℕ) (survives wanted : ℕ → Bool) (origi
   rules-kept-if-fine e =
       let both = both-fine (stepsVerdict count wanted survives 0 steps) _ e in
       let none = fine-means-none-holds Fine (endFaults rows count survives wanted origin (map stepOf steps) stated) (both .1) .1 in
-      let formed = wellFormed-if-fine count wanted survives 0 steps (both .0) in
+      let formed = usesOnlyKnown-if-fine count wanted survives 0 steps (both .0) in
       record {
         each-formed = each-formed-if-fine count wanted survives 0 steps (both .0);
         accepted =
             record {
-              well-formed = formed;
+              uses-only-known = formed;
               filled =
                   λ t is-wanted.
                   not-false _
@@ -201,14 +201,14 @@ module _ (rows : List ℕ) (count : ℕ) (survives wanted : ℕ → Bool) (origi
   pub fine-if-rules-kept : RulesKept rows count survives wanted steps stated → judgement rows count survives wanted origin steps stated ≡ Fine
   unfolding judgement
   fine-if-rules-kept kept =
-      let formed = kept .accepted .well-formed in
+      let formed = kept .accepted .uses-only-known in
       let each-filled = none-lowest-if-none-wanted count wanted (sets .wanted-below) (neverFilled survives (map stepOf steps))
       (λ t is-wanted. ap not (kept .accepted .filled t is-wanted)) in
       let each-right = none-lowest-if-none-wanted count wanted (sets .wanted-below) (endsWrong rows (map stepOf steps))
       (λ t is-wanted.
       same-passes
       (sym (run-on-symbols formed t (sets .wanted-below t is-wanted)) ∙ kept .accepted .right t is-wanted ∙ getD-take count rows t 0 (sets .wanted-below t is-wanted))) in
-      fine-if-both (steps-fine-if-wellFormed count wanted survives 0 steps (kept .each-formed) formed)
+      fine-if-both (steps-fine-if-usesOnlyKnown count wanted survives 0 steps (kept .each-formed) formed)
       (none-holds-means-fine (endFaults rows count survives wanted origin (map stepOf steps) stated)
       (le-ltb _ _ each-filled, (le-ltb _ _ each-right, (same-passes (kept .true-count), tt))))
 
@@ -363,7 +363,7 @@ module _ (code : Code) (within : WithinLimits code) (disk : ℕ) (disk-below : d
           head-fits = head-fits;
           wanted-good = good;
           each-formed = each-formed;
-          uses-known = accepted .well-formed;
+          uses-known = accepted .uses-only-known;
           restores = λ L L-from L-to. restores-every-length good accepted L;
           stated-count = refl;
           true-count = sym true-count;
@@ -437,14 +437,14 @@ module _ (code : Code) (within : WithinLimits code) (disk : ℕ) (disk-below : d
       -- It keeps all other symbols
       pub keeps-kept-if-fine : (L : ℕ) (x : List ℕ) → length x ≡ length (matrix code) * L → SameSymbols L keptBy (runOnStripe L (stepsOf plan) x) x
       keeps-kept-if-fine L x x-length s is-kept =
-          runOnStripe-keeps-unwritable (length (matrix code)) (accepted-if-fine fine .well-formed) wanted-rows matrix-survives-below L x x-length s
+          runOnStripe-keeps-unwritable (length (matrix code)) (accepted-if-fine fine .uses-only-known) wanted-rows matrix-survives-below L x x-length s
           (omega (arith, length-matrix, ltb-true s (symbols code) (and-left (ltb s (symbols code)) _ is-kept))) (not-true _ (and-right (ltb s (symbols code)) _ is-kept))
 
       -- and the stripe's length
       pub keeps-length-if-fine : (L : ℕ) (x : List ℕ) → length x ≡ length (matrix code) * L → length (runOnStripe L (stepsOf plan) x) ≡ length (matrix code) * L
       keeps-length-if-fine L x x-length =
           length-runOnStripe L (length (matrix code)) (stepsOf plan) x x-length
-          (wellFormed-names-below (length (matrix code)) wanted-rows (accepted-if-fine fine .well-formed) matrix-survives-below)
+          (usesOnlyKnown-names-below (length (matrix code)) wanted-rows (accepted-if-fine fine .uses-only-known) matrix-survives-below)
 
       -- What it leaves at surviving and wanted symbols depends on the survivors alone
       pub depends-on-survivors-if-fine : (L : ℕ) (x y : List ℕ) → length x ≡ length (matrix code) * L → length y ≡ length (matrix code) * L

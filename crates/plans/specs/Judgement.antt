@@ -72,13 +72,13 @@ wantedFaults layout disk edition list = listFaults (leastWanted edition) (height
 -- 17: kind above 2, a number not below N, or clear with source not 0
 abbrev pub malformed : ℕ → SheetStep → Bool
 malformed count s =
-    ltb 2 (s .kind) || leb count (s .place) || leb count (s .source) || (eqb (s .kind) 0 && not (eqb (s .source) 0))
+    ltb 2 (s .kind) || leb count (s .target) || leb count (s .source) || (eqb (s .kind) 0 && not (eqb (s .source) 0))
 
 -- In each step 17, 18 (a target that isn't wanted), 19 (an unfilled place is used)
 abbrev pub stepFaults : ℕ → (ℕ → Bool) → (ℕ → Bool) → ℕ → SheetStep → List Fault
 stepFaults count wanted known number s =
     (malformed count s gets 17 at number)
-    ∷ (not (wanted (s .place)) gets 18 at number)
+    ∷ (not (wanted (s .target)) gets 18 at number)
     ∷ (not (ready (stepOf s) known) gets 19 at number)
     ∷ []
 
@@ -91,7 +91,7 @@ unfoldable pub stepsVerdict : ℕ → (ℕ → Bool) → (ℕ → Bool) → ℕ 
 stepsVerdict count wanted known number [] = Fine
 stepsVerdict count wanted known number (s ∷ steps) =
     let here = firstOf (stepFaults count wanted known number s) in
-    ifFine here (stepsVerdict count wanted (extend known (s .place)) (suc number) steps) here
+    ifFine here (stepsVerdict count wanted (extend known (s .target)) (suc number) steps) here
 
 -- ------------------------------------------------------------------
 -- The end

@@ -66,14 +66,14 @@ pub fn wanted_part<'a>(plan: &'a [u8], sections: Sections) -> &'a [u8]
     requires { ⌜ sections .first + sections .count < 264 ⌝ }
     ensures { λ r. ⌜ now r ≡ wantedAt sections (now (plan .entry)) ⌝ }
 {
-    let size = plan.len();
+    let sheet_bytes = plan.len();
     let start = sections.first;
     let end = start + sections.count;
-    if size <= start {
+    if sheet_bytes <= start {
         return &plan[0..0];
     }
-    if size <= end {
-        return &plan[start..size];
+    if sheet_bytes <= end {
+        return &plan[start..sheet_bytes];
     }
     &plan[start..end]
 }

@@ -46,7 +46,7 @@ fn limit_test(verdict: Verdict, disks: usize, height: usize, data_symbols: usize
 
 // The order for a code sheet up to its rows.
 fn head_verdict(
-    size: usize,
+    sheet_bytes: usize,
     count: usize,
     edition: usize,
     disks: usize,
@@ -55,16 +55,16 @@ fn head_verdict(
     symbols: usize,
 ) -> Verdict
     requires { ⌜ (disks < 256) × (height < 256) × (symbols < 256) ⌝ }
-    ensures { λ r. ⌜ outcome r ≡ firstOf (headFaults size count edition disks height data_symbols symbols) ⌝ }
+    ensures { λ r. ⌜ outcome r ≡ firstOf (headFaults «sheet_bytes» count edition disks height data_symbols symbols) ⌝ }
 {
     let first = Verdict::Fine
-        .or_if(size < 6, Refusal::CodeSheetTooShort)
+        .or_if(sheet_bytes < 6, Refusal::CodeSheetTooShort)
         .or_if(count != 4, Refusal::CodeSheetCount)
         .or_if(edition != 1, Refusal::CodeSheetEdition);
     limit_test(first, disks, height, data_symbols)
         .or_if(symbols != disks * height, Refusal::CodeSheetCount)
-        .or_if(size < 6 + 8 * symbols, Refusal::CodeSheetTooShort)
-        .or_if(6 + 8 * symbols < size, Refusal::CodeSheetTooLong)
+        .or_if(sheet_bytes < 6 + 8 * symbols, Refusal::CodeSheetTooShort)
+        .or_if(6 + 8 * symbols < sheet_bytes, Refusal::CodeSheetTooLong)
 }
 
 // No array: what stands for a code where none was read.

@@ -6,7 +6,7 @@ ghost use Rattle.gf2.specs.BitSets.{has};
 ghost use Rattle.gf2.specs.Plans.{target, ready, NamesBelow};
 ghost use Rattle.plans.specs.Plans.{stepAt, sheetSteps};
 ghost use Rattle.plans.specs.Judgement.{malformed, stepReading};
-ghost use Rattle.plans.specs.Progress.{sourceOf, valueOf, asStep, Progressed};
+ghost use Rattle.plans.specs.InnerProgress.{sourceOf, valueOf, asStep, Progressed};
 ghost use Rattle.refusals.specs.Orders.{outcome, outcomeOf};
 use gf2::BitSet;
 use gf2::Step;
@@ -26,12 +26,12 @@ fn malformed(step: SheetStep, symbols: usize) -> bool
     ensures { λ r. ⌜ r ≡ malformed symbols step ⌝ }
 {
     let kind = step.kind;
-    let place = step.place;
+    let target = step.target;
     let source = step.source;
     if 2 < kind {
         return true;
     }
-    if symbols <= place {
+    if symbols <= target {
         return true;
     }
     if symbols <= source {
@@ -66,7 +66,7 @@ fn judge_step(
     if malformed(sheet_step, symbols) {
         return StepReading::Refused(Refusal::MalformedStep { step: number });
     }
-    if !has(wanted, sheet_step.place) {
+    if !has(wanted, sheet_step.target) {
         return StepReading::Refused(Refusal::TargetNotWanted { step: number });
     }
     let step = decoded(sheet_step);
@@ -141,7 +141,7 @@ fn value_of(step: Step, old: BitSet, source: BitSet) -> BitSet
 
 // Runs the steps of a sheet, given as its bytes from the first step on, on the rows; each is read against the places known by then. The
 // first faulty step ends the run.
-pub fn run_steps(
+pub fn run_on_rows(
     code_rows: [BitSet; 64],
     symbols: usize,
     survivors: BitSet,

@@ -1,1 +1,1 @@
-pub mod StepsWithin
+pub mod InnerStepsWithin

@@ -9,7 +9,7 @@ use lib.Seq.{take-suc-set, take-suc, take-all, length-take-le}
 use Rattle.texts.specs.Decimals.{digit, decimal}
 use Rattle.texts.proofs.DecimalLaws.{decimal-digit, decimal-last, decimal-short}
 use Rattle.texts.specs.Lines.{labelled}
-use Rattle.texts.specs.Texts.{textOf, HasRoom, Extended, Holds}
+use Rattle.texts.specs.InnerTexts.{textOf, HasRoom, Extended, Holds}
 use Rattle.texts.specs.declared.Text.{Text}
 
 -- One byte stored behind what a text holds
@@ -17,21 +17,21 @@ pub byte-stored : (text : Text) (byte : ℕ) → HasRoom text 1
     → Extended text 1 (byte ∷ []) (record { bytes = set (text .bytes) (text .len) byte; len = text .len + 1 })
 byte-stored text byte has =
     record {
-      size = length-set (text .bytes) (text .len) byte ∙ has .size;
+      whole = length-set (text .bytes) (text .len) byte ∙ has .whole;
       len-to = omega arith;
-      holds = rw add-one (take-suc-set (text .bytes) (text .len) byte (omega (arith, has .size, has .room)));
+      holds = rw add-one (take-suc-set (text .bytes) (text .len) byte (omega (arith, has .whole, has .room)));
     }
 
 -- A text has nothing behind itself
 pub extended-by-nothing : (text : Text) → length (text .bytes) ≡ 160 → Extended text 0 [] text
-extended-by-nothing text size = record { size = size; len-to = omega arith; holds = sym (append-nil (textOf text)) }
+extended-by-nothing text whole = record { whole = whole; len-to = omega arith; holds = sym (append-nil (textOf text)) }
 
 -- Two pieces one after the other
 pub extended-twice : {text front end : Text} {most more : ℕ} {first second : List ℕ}
     → Extended text most first front → Extended front more second end → Extended text (most + more) (first ++ second) end
 extended-twice {text} {first = first} {second = second} begun ended =
     record {
-      size = ended .size;
+      whole = ended .whole;
       len-to = omega (arith, begun .len-to, ended .len-to);
       holds = ended .holds ∙ ap (λ (l : List ℕ). l ++ second) (begun .holds) ∙ append-assoc (textOf text) first second;
     }
@@ -40,7 +40,7 @@ extended-twice {text} {first = first} {second = second} begun ended =
 pub extended-as : {text end : Text} {most : ℕ} {piece : List ℕ} (other : ℕ) (name : List ℕ) → most ≤ other → piece ≡ name
     → Extended text most piece end → Extended text other name end
 extended-as {text} other name h e begun =
-    record { size = begun .size; len-to = omega (arith, begun .len-to); holds = begun .holds ∙ ap (λ (l : List ℕ). textOf text ++ l) e }
+    record { whole = begun .whole; len-to = omega (arith, begun .len-to); holds = begun .holds ∙ ap (λ (l : List ℕ). textOf text ++ l) e }
 
 -- A text within its buffer holds as many bytes as its length says
 pub length-textOf : (text : Text) → length (text .bytes) ≡ 160 → text .len ≤ 160 → length (textOf text) ≡ text .len
@@ -93,11 +93,11 @@ labelled-pushed label number h begun ended =
 pub holds-alone : {start end : Text} {most : ℕ} {piece : List ℕ} → start .len ≡ 0 → most ≤ 160 → Extended start most piece end → Holds end piece
 holds-alone {start} {piece = piece} none h more =
     record {
-      size = more .size;
+      whole = more .whole;
       len-to = omega (arith, more .len-to);
       holds = more .holds ∙ ap (λ (n : ℕ). take n (start .bytes) ++ piece) none;
     }
 
 -- The same text under another name
 pub holds-as : {text : Text} {piece : List ℕ} (name : List ℕ) → piece ≡ name → Holds text piece → Holds text name
-holds-as name e held = record { size = held .size; len-to = held .len-to; holds = held .holds ∙ e }
+holds-as name e held = record { whole = held .whole; len-to = held .len-to; holds = held .holds ∙ e }

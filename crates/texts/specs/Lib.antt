@@ -1,3 +1,3 @@
 pub mod Decimals
 pub mod Lines
-pub mod Texts
+pub mod InnerTexts

@@ -5,7 +5,7 @@ ghost use Prim.Native.Nat.{_+_};
 ghost use lib.ListN.{length};
 ghost use Rattle.texts.specs.Decimals.{decimal};
 ghost use Rattle.texts.specs.Lines.{labelled, codeLine, diskLine, acceptedLines, refusalLine};
-ghost use Rattle.texts.specs.Texts.{HasRoom, Extended};
+ghost use Rattle.texts.specs.InnerTexts.{HasRoom, Extended};
 ghost use Rattle.refusals.specs.Refusals.{numbered};
 use refusals::Refusal;
 

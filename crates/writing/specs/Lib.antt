@@ -1,1 +1,1 @@
-pub mod PlanSheets
+pub mod InnerPlanSheets

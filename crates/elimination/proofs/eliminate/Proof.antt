@@ -6,7 +6,7 @@ use native.Mathlib.Omega.{arith}
 use lib.ListN.{length, getD, length-set}
 use borrow.Kind.Array.{good-length, eInt}
 use mir.Syntax.{w64}
-use Rattle.elimination.specs.Patterns.{ZeroBehind}
+use Rattle.elimination.specs.InnerPatterns.{ZeroBehind}
 use Rattle.elimination.proofs.PatternLaws.{reducePatterns-zero-behind}
 use Rattle.elimination.proofs.RowLaws.{EliminatedTo, eliminated-none, eliminated-next, eliminated-all}
 use Rattle.elimination.proofs.eliminate.Statement.{statement}

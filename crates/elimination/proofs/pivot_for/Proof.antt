@@ -3,7 +3,7 @@ use mathlib.Core.Path.{_≡_, refl, sym, ap, _∙_}
 use Prim.Native.Nat.{ℕ, _-_, _≤_}
 use native.Mathlib.Omega.{arith}
 use lib.ListN.{drop}
-use Rattle.gf2.specs.Elimination.{pivotFor}
+use Rattle.gf2.specs.InnerElimination.{pivotFor}
 use Rattle.elimination.proofs.PivotLaws.{pivotFor-passes, pivotFor-finds, pivotFor-behind}
 use Rattle.elimination.proofs.pivot_for.Statement.{statement}
 use Rattle.elimination.proofs.pivot_for.Tie as tie

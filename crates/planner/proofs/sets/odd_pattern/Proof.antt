@@ -6,8 +6,8 @@ use native.Mathlib.Nat.{sub-zero}
 use native.Mathlib.Omega.{arith}
 use borrow.Author.Tests.{not-true, not-false}
 use Rattle.gf2.specs.BitSets.{has}
-use Rattle.writing.specs.PlanSheets.{symbolsIn}
-use Rattle.planner.specs.Work.{oddPattern}
+use Rattle.writing.specs.InnerPlanSheets.{symbolsIn}
+use Rattle.planner.specs.InnerWork.{oddPattern}
 use Rattle.planner.proofs.FilledLaws.{oddFrom, odd-skip, odd-first, odd-later, odd-none}
 use Rattle.planner.proofs.sets.odd_pattern.Statement.{statement}
 use Rattle.planner.proofs.sets.odd_pattern.Tie as tie

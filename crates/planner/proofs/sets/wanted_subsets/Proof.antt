@@ -7,8 +7,8 @@ use Prim.Native.Nat.{ℕ, _-_, _≤_}
 use native.Mathlib.Omega.{arith}
 use lib.ListN.{length, getD, take}
 use Rattle.gf2.specs.BitSets.{has}
-use Rattle.gf2.specs.Elimination.{backSubstitute}
-use Rattle.planner.specs.Work.{FilledTo}
+use Rattle.gf2.specs.InnerElimination.{backSubstitute}
+use Rattle.planner.specs.InnerWork.{FilledTo}
 use Rattle.planner.proofs.FilledLaws.{filled-none, filled-stored, filled-passed}
 use Rattle.planner.proofs.sets.wanted_subsets.Statement.{statement}
 use Rattle.planner.proofs.sets.wanted_subsets.Tie as tie

@@ -47,7 +47,7 @@ push-number-push-requires : (t : ℕ) → push-number-lts.Need-push-requires (
 ) (push-number-at t) push-number.Post
 push-number-push-requires t c κs =
     let pre = c .before .pre .1 in
-    record { size = pre .size; room = omega (arith, pre .room, decimal-not-empty (c .before .args .number)) }
+    record { whole = pre .whole; room = omega (arith, pre .room, decimal-not-empty (c .before .args .number)) }
 
 push-number-returns : (t : ℕ) → push-number-lts.Need-returns (
   push-reads.Asked,
@@ -65,7 +65,7 @@ push-number-push-number-requires : (t : ℕ) → push-number-lts.Need-push-numbe
 ) (push-number-at t) push-number.Post
 push-number-push-number-requires t c κs =
     let pre = c .before .pre in
-    (omega (arith, pre .0), record { size = pre .1 .size; room = omega (arith, pre .1 .room, length-decimal-last (c .before .args .number) (c .if1 .left)) })
+    (omega (arith, pre .0), record { whole = pre .1 .whole; room = omega (arith, pre .1 .room, length-decimal-last (c .before .args .number) (c .if1 .left)) })
 
 push-number-cast-push-2 : (t : ℕ) → push-number-lts.Need-cast-push-2 (
   push-reads.Asked,
@@ -92,7 +92,7 @@ push-number-push-requires-2 : (t : ℕ) → push-number-lts.Need-push-requires-2
 push-number-push-requires-2 t c κs =
     let start = c .before .before in
     let front = c .push-number .ensures in
-    record { size = front .size; room = omega (arith, start .pre .1 .room, front .len-to, length-decimal-last (start .args .number) (c .before .if1 .left)) }
+    record { whole = front .whole; room = omega (arith, start .pre .1 .room, front .len-to, length-decimal-last (start .args .number) (c .before .if1 .left)) }
 
 push-number-returns-2 : (t : ℕ) → push-number-lts.Need-returns-2 (
   push-reads.Asked,

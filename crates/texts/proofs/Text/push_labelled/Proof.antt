@@ -13,7 +13,7 @@ push-number-requires : tie.Need-push-number-requires
 push-number-requires c κs =
     let pre = c .before .before .pre in
     let front = c .push-text .ensures in
-    record { size = front .size; room = omega (arith, pre .room, front .len-to, decimal-short (c .before .before .args .number) (omega arith)) }
+    record { whole = front .whole; room = omega (arith, pre .room, front .len-to, decimal-short (c .before .before .args .number) (omega arith)) }
 
 returns : tie.Need-returns
 returns c = labelled-pushed _ _ (omega arith) (c .before .push-text .ensures) (c .push-number .ensures)

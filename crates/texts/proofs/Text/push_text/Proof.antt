@@ -2,7 +2,7 @@
 use Prim.Native.Nat.{_-_, _≤_}
 use native.Mathlib.Omega.{arith}
 use lib.ListN.{length, take}
-use Rattle.texts.specs.Texts.{Extended}
+use Rattle.texts.specs.InnerTexts.{Extended}
 use Rattle.texts.proofs.TextLaws.{extended-by-nothing, piece-more, piece-whole}
 use Rattle.texts.proofs.Text.push_text.Statement.{statement}
 use Rattle.texts.proofs.Text.push_text.Tie as tie
@@ -14,7 +14,7 @@ abbrev μ-loop : tie.MeasureT-loop
 μ-loop piece text₀ i₀ text i = length piece - i
 
 loop-holds : tie.Need-loop-holds Inv-loop μ-loop
-loop-holds c = (omega arith, extended-by-nothing _ (c .before .pre .size))
+loop-holds c = (omega arith, extended-by-nothing _ (c .before .pre .whole))
 
 shared-slice-read-push : tie.Need-shared-slice-read-push Inv-loop μ-loop
 shared-slice-read-push c = omega arith
@@ -23,7 +23,7 @@ push-requires : tie.Need-push-requires Inv-loop μ-loop
 push-requires c κs =
     let loop = c .before .before .loop in
     let pre = c .before .before .before .before .pre in
-    record { size = loop .inv .1 .size; room = omega (arith, loop .inv .1 .len-to, pre .room) }
+    record { whole = loop .inv .1 .whole; room = omega (arith, loop .inv .1 .len-to, pre .room) }
 
 add-i : tie.Need-add-i Inv-loop μ-loop
 add-i c = omega arith

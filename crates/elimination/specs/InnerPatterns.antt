@@ -5,7 +5,7 @@ use mathlib.Core.List.{List, _++_}
 use Prim.Native.Nat.{ℕ, _-_, _≤_}
 use lib.Dec.{eqb}
 use lib.ListN.{getD, replicate}
-use Rattle.gf2.specs.Elimination.{units}
+use Rattle.gf2.specs.InnerElimination.{units}
 
 -- The unit patterns of K bits, and zeros behind them
 unfoldable pub unitPatterns : ℕ → List ℕ

@@ -11,17 +11,17 @@ textOf text = take (text .len) (text .bytes)
 
 -- A text has room for so many bytes behind what it holds
 pub record HasRoom (text : Text) (most : ℕ) : Type 0 where
-  pub size : length (text .bytes) ≡ 160
+  pub whole : length (text .bytes) ≡ 160
   pub room : text .len + most ≤ 160
 
 -- A text with a piece, of at most so many bytes, behind what it held
 pub record Extended (text : Text) (most : ℕ) (piece : List ℕ) (result : Text) : Type 0 where
-  pub size : length (result .bytes) ≡ 160
+  pub whole : length (result .bytes) ≡ 160
   pub len-to : result .len ≤ text .len + most
   pub holds : textOf result ≡ textOf text ++ piece
 
 -- A text that is just this piece
 pub record Holds (text : Text) (piece : List ℕ) : Type 0 where
-  pub size : length (text .bytes) ≡ 160
+  pub whole : length (text .bytes) ≡ 160
   pub len-to : text .len ≤ 160
   pub holds : textOf text ≡ piece
