@@ -8,7 +8,7 @@ use Rattle.encoding.specs.Encoding.{encodedStripe}
 use Rattle.family_codes.specs.Families.{familyCode}
 use Rattle.family_codes.specs.declared.Family.{Family}
 use Rattle.family_codes.specs.declared.Family.the-variants.{Liberation, RowDiagonal}
-use Rattle.gf2.specs.BitSets.{with}
+use Rattle.bits.specs.BitSets.{with}
 use Rattle.lines.specs.Lines.{deskText}
 use Rattle.planner.specs.Demand3.{CannotBeRebuilt, IsPlan, Promised}
 use Rattle.planner.specs.Planning.{Found, APattern, wholeDisk, listedOn}

@@ -3,7 +3,7 @@ ghost use mathlib.Core.Path.{_≡_};
 ghost use Prim.Native.Nat.{_*_, _≤_, _<_};
 ghost use lib.Dec.{eqb};
 ghost use Rattle.codes.specs.Layouts.{symbolsOf, firstSymbol, heightOf, diskOf, onDisk};
-use gf2::BitSet;
+use bits::BitSet;
 
 // The disks of an array and the symbols on each. Symbols are numbered disk after disk.
 pub struct Layout {

@@ -10,11 +10,11 @@ use lib.Bits.{bitXor}
 use lib.Dec.{eqb, eqb·suc-zero}
 use lib.ListN.{length, getD, set, drop, length-map}
 use lib.Seq.{getD-drop}
-use Rattle.gf2.specs.BitSets.{overlap}
+use Rattle.bits.specs.BitSets.{overlap}
 use Rattle.gf2.specs.InnerElimination.{pivotFor, reducePattern, reducePatterns}
-use Rattle.gf2.proofs.Booleans.{bool-cases}
+use Rattle.bits.proofs.Booleans.{bool-cases}
 use Rattle.gf2.proofs.EliminationLaws.{getD-reducePatterns}
-use Rattle.gf2.proofs.OverlapLaws.{even-if-not-odd, overlap-zero-left}
+use Rattle.bits.proofs.OverlapLaws.{even-if-not-odd, overlap-zero-left}
 use Rattle.gf2.proofs.StoreLaws.{overwritten, overwritten-next, overwritten-more, overwritten-kept, overwritten-enough}
 use Rattle.elimination.specs.InnerPatterns.{ZeroBehind, firstNonempty}
 use Rattle.elimination.proofs.PatternLaws.{reducePattern-even, reducePattern-odd, reducePatterns-zero-behind}

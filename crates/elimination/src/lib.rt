@@ -3,14 +3,14 @@ ghost use mathlib.Core.Path.{_≡_};
 ghost use Prim.Native.Nat.{_≤_};
 ghost use lib.Dec.{eqb};
 ghost use lib.ListN.{take};
-ghost use Rattle.gf2.specs.BitSets.{overlap};
+ghost use Rattle.bits.specs.BitSets.{overlap};
 ghost use Rattle.gf2.specs.InnerElimination.{pivotFor, reducePatterns, remaining, pivots, backSubstitute};
 ghost use Rattle.elimination.specs.InnerPatterns.{unitPatterns, ZeroBehind, firstNonempty};
-use gf2::BitSet;
-use gf2::equal;
-use gf2::odd_overlap;
-use gf2::sum;
-use gf2::with;
+use bits::BitSet;
+use bits::equal;
+use bits::odd_overlap;
+use bits::sum;
+use bits::with;
 
 // The patterns after one row, and the row's pivot.
 pub struct Reduced {

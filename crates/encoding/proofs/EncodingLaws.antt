@@ -9,7 +9,7 @@ use native.Mathlib.Omega.{arith}
 use lib.ListN.{length, getD, take, drop, replicate, drop-of-length-le, length-append, length-drop}
 use lib.Seq.{length-take-le, take-at, drop-at, drop-drop, take-suc}
 use borrow.Rule.Slice.PartMut.{putMid}
-use Rattle.gf2.specs.BitSets.{has}
+use Rattle.bits.specs.BitSets.{has}
 use Rattle.gf2.proofs.SymbolLaws.{part-length, part-is-symbol, length-encodedSymbol, length-encoding}
 use Rattle.gf2.specs.Stripes.{symbol, xorBytes, encodedSymbol, encoding}
 

@@ -5,8 +5,8 @@ ghost use lib.ListN.{length, take, replicate};
 ghost use Rattle.gf2.specs.Stripes.{xorBytes, encodedSymbol, encoding};
 ghost use Rattle.refusals.specs.Orders.{outcome, andThen};
 ghost use Rattle.encoding.specs.Encoding.{encodeFaults, encodeVerdict, encodedStripe};
+use bits::BitSet;
 use codes::is_length;
-use gf2::BitSet;
 use refusals::Refusal;
 use refusals::Verdict;
 use sheets::read_code;
@@ -42,7 +42,7 @@ fn encode_symbol(row: BitSet, data_symbols: usize, size: usize, contents: &[u8],
     clear(target);
     let mut t = 0;
     while t < data_symbols {
-        if gf2::has(row, t) {
+        if bits::has(row, t) {
             add(target, &contents[t * size..(t + 1) * size]);
         }
         t += 1;

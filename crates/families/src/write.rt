@@ -6,8 +6,8 @@ ghost use lib.ListN.{length, take, drop};
 ghost use Rattle.codes.specs.Codes.{WithinLimits};
 ghost use Rattle.sheets.specs.Bytes.{lowBytes};
 ghost use Rattle.sheets.specs.CodeSheets.{codeSheet, rowBytes, sheetLength};
+use bits::BitSet;
 use codes::Code;
-use gf2::BitSet;
 
 // A row's 8 bytes, low byte first.
 fn write_row(row: BitSet, buffer: &mut [u8], at: usize)

@@ -15,7 +15,7 @@ use Rattle.codes.specs.Codes.{rowsOf}
 use Rattle.codes.specs.Layouts.{symbolsOf}
 use Rattle.codes.specs.declared.Code.{Code}
 use Rattle.codes.specs.declared.Layout.{Layout}
-use Rattle.gf2.specs.BitSets.{with}
+use Rattle.bits.specs.BitSets.{with}
 use Rattle.family_codes.specs.declared.Family.{Family}
 use Rattle.family_codes.specs.declared.Family.the-variants.{SingleParity, Liberation, RowDiagonal}
 use Rattle.family_codes.specs.Families.{sumOver, dataSymbol, unit, entry, dataDisks, familyHeight, parityDisks, threeFiveOrSeven, belowLimits, listed, dataSymbols, familyLayout, parityRow, diskRow, familyRow, familyCode}

@@ -11,8 +11,8 @@ use super::listed::layout_of;
 use super::row_diagonal;
 use super::rows::identity_row;
 use super::rows::row_parity;
+use bits::BitSet;
 use codes::Code;
-use gf2::BitSet;
 
 // Row `row` of a parity disk, counted from 0.
 fn parity_row(family: Family, parity: usize, row: usize) -> BitSet

@@ -6,7 +6,7 @@ ghost use Rattle.family_codes.specs.Families.{listed, liberationDiagonal
 ghost use Rattle.family_codes.specs.declared.Family.the-variants.{Liberation};
 use super::rows::identity_row;
 use super::rows::row_parity;
-use gf2::BitSet;
+use bits::BitSet;
 
 // What Q takes of each disk.
 fn diagonal(w: usize, data_disks: usize, row: usize) -> BitSet
@@ -17,7 +17,7 @@ fn diagonal(w: usize, data_disks: usize, row: usize) -> BitSet
     let mut disk = 0;
     while disk < data_disks {
         let next = identity_row(w, disk, (row + disk) % w);
-        sum = gf2::sum(sum, next);
+        sum = bits::sum(sum, next);
         disk += 1;
     }
     sum
@@ -47,7 +47,7 @@ fn extra(w: usize, data_disks: usize, row: usize) -> BitSet
     let mut disk = 0;
     while disk < data_disks {
         let next = extra_entry(w, row, disk);
-        sum = gf2::sum(sum, next);
+        sum = bits::sum(sum, next);
         disk += 1;
     }
     sum
@@ -58,7 +58,7 @@ fn q_row(w: usize, data_disks: usize, row: usize) -> BitSet
     requires { ⌜ (w ≤ 7) × («data_disks» ≤ w) × (row < w) ⌝ }
     ensures { λ r. ⌜ r ≡ liberationQ w «data_disks» row ⌝ }
 {
-    gf2::sum(diagonal(w, data_disks, row), extra(w, data_disks, row))
+    bits::sum(diagonal(w, data_disks, row), extra(w, data_disks, row))
 }
 
 // Row `row` of P, parity disk 0, or of Q.

@@ -6,7 +6,7 @@ ghost use Rattle.family_codes.specs.Families.{listed, diagonalEntry, dia
 ghost use Rattle.family_codes.specs.declared.Family.the-variants.{RowDiagonal};
 use super::rows::identity_row;
 use super::rows::row_parity;
-use gf2::BitSet;
+use bits::BitSet;
 
 // What Q takes of one row of a data disk: the row itself if it lies on the diagonal.
 fn diagonal_entry(p: usize, row: usize, disk: usize, from: usize) -> BitSet
@@ -29,7 +29,7 @@ fn diagonal_of(p: usize, row: usize, disk: usize) -> BitSet
     let mut from = 0;
     while from < height {
         let next = diagonal_entry(p, row, disk, from);
-        sum = gf2::sum(sum, next);
+        sum = bits::sum(sum, next);
         from += 1;
     }
     sum
@@ -45,7 +45,7 @@ fn q_row(p: usize, row: usize) -> BitSet
     let mut disk = 0;
     while disk < data_disks {
         let next = diagonal_of(p, row, disk);
-        sum = gf2::sum(sum, next);
+        sum = bits::sum(sum, next);
         disk += 1;
     }
     sum

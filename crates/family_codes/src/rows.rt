@@ -2,14 +2,14 @@
 ghost use mathlib.Core.Path.{_≡_};
 ghost use Prim.Native.Nat.{_*_, _≤_, _<_};
 ghost use Rattle.family_codes.specs.Families.{entry, dataSymbol, rowParity};
-use gf2::BitSet;
+use bits::BitSet;
 
 // The identity row of data disk `disk`, row `row`.
 pub fn identity_row(height: usize, disk: usize, row: usize) -> BitSet
     requires { ⌜ dataSymbol height disk row < 64 ⌝ }
     ensures { λ r. ⌜ r ≡ entry height disk row ⌝ }
 {
-    gf2::with(0, disk * height + row)
+    bits::with(0, disk * height + row)
 }
 
 // Row parity.
@@ -21,7 +21,7 @@ pub fn row_parity(data_disks: usize, height: usize, row: usize) -> BitSet
     let mut disk = 0;
     while disk < data_disks {
         let next = identity_row(height, disk, row);
-        sum = gf2::sum(sum, next);
+        sum = bits::sum(sum, next);
         disk += 1;
     }
     sum

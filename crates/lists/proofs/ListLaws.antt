@@ -8,9 +8,9 @@ use lib.Dec.{eqb, leb}
 use lib.ListN.{length, getD, take}
 use borrow.Author.Tests.{leb-false, ltb-false, le-leb, lt-leb, le-ltb, eqb-true, not-false}
 use lib.Seq.{take-all}
-use Rattle.gf2.specs.BitSets.{has, with}
+use Rattle.bits.specs.BitSets.{has, with}
 use Rattle.gf2.proofs.SearchLaws.{firstFrom-none, firstFrom-found, none-if-firstFrom-behind}
-use Rattle.gf2.proofs.SetLaws.{has-empty, has-with}
+use Rattle.bits.proofs.SetLaws.{has-empty, has-with}
 use Rattle.refusals.specs.Refusals.{Numbered}
 use Rattle.refusals.proofs.OrderLaws.{NoneHolds}
 use Rattle.lists.specs.Lists.{notRising, firstBad, listFaults, GoodList, listed}

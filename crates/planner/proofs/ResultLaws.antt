@@ -15,11 +15,11 @@ use Rattle.codes.specs.Codes.{symbols}
 use Rattle.codes.specs.declared.Code.{Code}
 use Rattle.codes.proofs.LayoutLaws.{height-of-at-most}
 use Rattle.elimination.specs.InnerPatterns.{unitPatterns}
-use Rattle.gf2.specs.BitSets.{has}
+use Rattle.bits.specs.BitSets.{has}
 use Rattle.gf2.specs.InnerElimination.{remaining, pivots, backSubstitute}
 use Rattle.gf2.specs.Plans.{Within}
 use Rattle.gf2.specs.declared.Step.{Step}
-use Rattle.gf2.proofs.Booleans.{bool-cases}
+use Rattle.bits.proofs.Booleans.{bool-cases}
 use Rattle.gf2.proofs.SubsetPlanLaws.{planOf-same}
 use Rattle.writing.specs.InnerPlanSheets.{EditionFits, headFor, headBytes, planSheet, stepsLength, symbolsIn, subsetPlan, sourceCount, PlanFits}
 use Rattle.planner.specs.Planning.{Asked, leastBuffer, APlan, APattern}

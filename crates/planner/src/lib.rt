@@ -14,11 +14,11 @@ ghost use Rattle.writing.specs.InnerPlanSheets.{EditionFits};
 
 mod sets;
 
+use bits::BitSet;
+use bits::equal;
 use codes::Code;
 use elimination::eliminate;
 use elimination::unit_patterns;
-use gf2::BitSet;
-use gf2::equal;
 use lists::first_bad;
 use lists::list_test;
 use plans::loss::least_wanted;

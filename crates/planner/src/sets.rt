@@ -4,15 +4,15 @@ ghost use mathlib.Core.Bool.{cond};
 ghost use Prim.Native.Nat.{_≤_};
 ghost use lib.ListN.{length, getD, take};
 ghost use Rattle.elimination.specs.InnerPatterns.{ZeroBehind};
-ghost use Rattle.gf2.specs.BitSets.{has};
+ghost use Rattle.bits.specs.BitSets.{has};
 ghost use Rattle.gf2.specs.InnerElimination.{backSubstitute};
 ghost use Rattle.planner.specs.InnerWork.{oddPattern, FilledTo};
 ghost use Rattle.writing.specs.InnerPlanSheets.{symbolsIn};
+use bits::BitSet;
+use bits::equal;
+use bits::has;
 use elimination::back_substitute;
 use elimination::pivot_for;
-use gf2::BitSet;
-use gf2::equal;
-use gf2::has;
 
 // The rows of the survivors, and 0 for the others: symbols keep their numbers.
 pub fn surviving_rows(rows: [BitSet; 64], symbols: usize, survivors: BitSet) -> [BitSet; 64]

@@ -19,7 +19,7 @@ use Rattle.codes.proofs.LayoutLaws.{strip-within, onDisk-above, onDisk-before}
 use Rattle.gf2.specs.Plans.{run, Within, PlacesBelow, extend, UsesOnlyKnown, done, next, Accepted}
 use Rattle.gf2.specs.Selection.{Below}
 use Rattle.gf2.specs.Stripes.{Valid, runOnStripe, SameSymbols, RestoresStripes}
-use Rattle.gf2.proofs.Booleans.{and-left, and-right, and-true-if-both}
+use Rattle.bits.proofs.Booleans.{and-left, and-right, and-true-if-both}
 use Rattle.gf2.proofs.Columns.{length-runOnStripe}
 use Rattle.gf2.proofs.PlanLaws.{run-take}
 use Rattle.gf2.proofs.SearchLaws.{firstFrom-none, none-if-firstFrom-behind}

@@ -10,8 +10,8 @@ use borrow.Author.Tests.{lt-ltb, le-ltb}
 use Rattle.codes.specs.Layouts.{symbolsOf, firstSymbol, heightOf, onDisk}
 use Rattle.codes.specs.declared.Layout.{Layout}
 use Rattle.codes.proofs.LayoutLaws.{strip-within, onDisk-above, onDisk-before}
-use Rattle.gf2.specs.BitSets.{has, below}
-use Rattle.gf2.proofs.SetLaws.{has-sum, has-below}
+use Rattle.bits.specs.BitSets.{has, below}
+use Rattle.bits.proofs.SetLaws.{has-sum, has-below}
 use Rattle.plans.specs.Judgement.{lost, survives}
 
 module _ (layout : Layout) (disk : ℕ) where

@@ -3,12 +3,12 @@ ghost use mathlib.Core.Path.{_≡_};
 ghost use Prim.Native.Nat.{ℕ, _<_};
 ghost use lib.ListN.{length, getD};
 ghost use Rattle.codes.specs.Layouts.{symbolsOf, firstSymbol};
-ghost use Rattle.gf2.specs.BitSets.{has};
+ghost use Rattle.bits.specs.BitSets.{has};
 ghost use Rattle.plans.specs.Judgement.{DiskWithin, lost, survives, wantedOf, leastWanted};
+use bits::BitSet;
+use bits::below;
+use bits::sum;
 use codes::Layout;
-use gf2::BitSet;
-use gf2::below;
-use gf2::sum;
 use lists::set_of;
 
 // Of an array's symbols those that survive and those that are wanted; the places of wanted symbols count from `origin`.

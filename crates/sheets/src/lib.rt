@@ -7,9 +7,9 @@ ghost use Rattle.refusals.specs.Orders.{Fine, outcome, firstOf, andThen};
 ghost use Rattle.sheets.specs.Bytes.{lowFirst};
 ghost use Rattle.sheets.specs.CodeSheets.{rowIn};
 ghost use Rattle.sheets.specs.CodeReading.{limitFaults, headFaults, firstStray, reading, asRead};
+use bits::BitSet;
 use codes::Code;
 use codes::Layout;
-use gf2::BitSet;
 use refusals::Refusal;
 use refusals::Verdict;
 
@@ -133,7 +133,7 @@ fn first_stray(rows: [BitSet; 64], symbols: usize, data_symbols: usize) -> usize
         let bits = rows[row];
         let mut bit = data_symbols;
         while bit < 64 {
-            if gf2::has(bits, bit) {
+            if bits::has(bits, bit) {
                 place = row * 64 + bit;
                 break 'search;
             }

@@ -15,13 +15,13 @@ use Rattle.plans.proofs.StepLaws.{part-to-end}
 use Rattle.plans.specs.declared.head.PlanHead.{PlanHead}
 use Rattle.codes.specs.Layouts.{symbolsOf}
 use Rattle.codes.specs.declared.Layout.{Layout}
-use Rattle.gf2.specs.BitSets.{has, count}
+use Rattle.bits.specs.BitSets.{has, count}
 use Rattle.gf2.specs.Plans.{NamesBelow}
 use Rattle.gf2.specs.InnerSubsetPlans.{addAll, fillFrom, planOf}
 use Rattle.gf2.specs.declared.Step.{Step}
 use Rattle.gf2.specs.declared.Step.the-variants.{Clear, Copy, Add}
-use Rattle.gf2.proofs.BitSetLaws.{count-le}
-use Rattle.gf2.proofs.Booleans.{bool-cases}
+use Rattle.bits.proofs.BitSetLaws.{count-le}
+use Rattle.bits.proofs.Booleans.{bool-cases}
 use Rattle.writing.specs.InnerPlanSheets.{stepBytes, stepsBytes, firstSection, listBytes, headBytes, planHead, planSheet, stepsLength, withSteps, StepsFit, symbolsIn, planFor, subsetPlan, sourceCount, StepsWritable, Tells, PlanFits}
 use Rattle.writing.specs.declared.Steps.{Steps}
 use Rattle.writing.proofs.PlanSheetLaws.{length-stepsBytes, stepsBytes-append}

@@ -3,8 +3,8 @@ use mathlib.Core.Path.{sym, ap, _∙_}
 use Prim.Native.Nat.{ℕ}
 use lib.Dec.{eqb}
 use borrow.Author.Tests.{eqb-true}
-use Rattle.gf2.specs.BitSets.{overlap}
-use Rattle.gf2.proofs.OverlapLaws.{overlap-zero-left}
+use Rattle.bits.specs.BitSets.{overlap}
+use Rattle.bits.proofs.OverlapLaws.{overlap-zero-left}
 use Rattle.elimination.proofs.pivot_is_odd.Statement.{statement}
 use Rattle.elimination.proofs.pivot_is_odd.Tie as tie
 

@@ -4,7 +4,7 @@ use Prim.Native.Nat.{ℕ, _≤_}
 use native.Mathlib.Omega.{arith}
 use lib.ListN.{length}
 use Rattle.codes.specs.Layouts.{symbolsOf}
-use Rattle.gf2.specs.BitSets.{has}
+use Rattle.bits.specs.BitSets.{has}
 use Rattle.writing.specs.InnerPlanSheets.{headFor, subsetPlan}
 use Rattle.writing.proofs.StepsWrittenLaws.{listBytes-small, part-stored, sheet-stored, steps-writable, count-told, reads-told, few-reads}
 use Rattle.writing.proofs.write_plan.Statement.{statement}

@@ -6,7 +6,7 @@ use native.Mathlib.Nat.{le-refl, not-suc-le-zero}
 use native.Mathlib.Omega.{arith}
 use borrow.Author.Count.{below-more}
 use borrow.Author.Tests.{eqb-true}
-use Rattle.gf2.specs.BitSets.{has}
+use Rattle.bits.specs.BitSets.{has}
 use Rattle.plans.proofs.EndLaws.{all-known, lowest-found, lowest-none}
 use Rattle.checker.proofs.body.first_unfilled.Statement.{statement}
 use Rattle.checker.proofs.body.first_unfilled.Tie as tie

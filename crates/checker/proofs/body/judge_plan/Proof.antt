@@ -3,7 +3,7 @@ use mathlib.Core.Path.{sym, ap, _∙_, subst}
 use Prim.Native.Nat.{ℕ, _≤_}
 use native.Mathlib.Omega.{arith}
 use lib.ListN.{getD}
-use Rattle.gf2.specs.BitSets.{has}
+use Rattle.bits.specs.BitSets.{has}
 use Rattle.plans.specs.Plans.{sheetSteps}
 use Rattle.plans.specs.Judgement.{SetsWithin, judgement}
 use Rattle.plans.proofs.EndLaws.{body-by-sets, sets-by-code}

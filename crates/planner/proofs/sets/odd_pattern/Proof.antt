@@ -5,7 +5,7 @@ use Prim.Native.Nat.{_-_, _≤_}
 use native.Mathlib.Nat.{sub-zero}
 use native.Mathlib.Omega.{arith}
 use borrow.Author.Tests.{not-true, not-false}
-use Rattle.gf2.specs.BitSets.{has}
+use Rattle.bits.specs.BitSets.{has}
 use Rattle.writing.specs.InnerPlanSheets.{symbolsIn}
 use Rattle.planner.specs.InnerWork.{oddPattern}
 use Rattle.planner.proofs.FilledLaws.{oddFrom, odd-skip, odd-first, odd-later, odd-none}

@@ -6,7 +6,7 @@ use mathlib.Core.Logic.{⊎-elim}
 use Prim.Native.Nat.{ℕ, _-_, _≤_}
 use native.Mathlib.Omega.{arith}
 use lib.ListN.{length, getD, take}
-use Rattle.gf2.specs.BitSets.{has}
+use Rattle.bits.specs.BitSets.{has}
 use Rattle.gf2.specs.InnerElimination.{backSubstitute}
 use Rattle.planner.specs.InnerWork.{FilledTo}
 use Rattle.planner.proofs.FilledLaws.{filled-none, filled-stored, filled-passed}

@@ -4,7 +4,7 @@ use mathlib.Core.Path.{_≡_, ap, ap₂, _∙_}
 use native.Mathlib.Omega.{arith}
 use lib.Bits.{bitXor}
 use Rattle.codes.proofs.LayoutLaws.{strip-within}
-use Rattle.gf2.specs.BitSets.{has, below}
+use Rattle.bits.specs.BitSets.{has, below}
 use Rattle.plans.specs.Judgement.{lost}
 use Rattle.plans.proofs.LossLaws.{strip-as-set, rest-as-set}
 use Rattle.plans.proofs.loss.loss_of_disk.Statement.{statement}

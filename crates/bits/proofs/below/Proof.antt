@@ -1,13 +1,13 @@
--- `gf2::below` meets its contract: the shifted one is not cut off, and the whole width is the case beside. Assumes nothing.
+-- `bits::below` meets its contract: the shifted one is not cut off, and the whole width is the case beside. Assumes nothing.
 use Prim.Native.Nat.{ℕ, _-_, _≤_}
 use mathlib.Core.Path.{ap, sym, subst}
 use native.Mathlib.Omega.{arith}
 use lib.Pow.{pow-pos}
 use borrow.Author.Needs.{needs}
-use Rattle.gf2.specs.BitSets.{below}
-use Rattle.gf2.proofs.SetLaws.{shifted-one}
-use Rattle.gf2.proofs.below.Statement.{statement}
-use Rattle.gf2.proofs.below.Tie as tie
+use Rattle.bits.specs.BitSets.{below}
+use Rattle.bits.proofs.SetLaws.{shifted-one}
+use Rattle.bits.proofs.below.Statement.{statement}
+use Rattle.bits.proofs.below.Tie as tie
 
 returns : tie.Need-returns
 unfolding below

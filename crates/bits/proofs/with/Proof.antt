@@ -1,11 +1,11 @@
--- `gf2::with` meets its contract: the shifted one is not cut off. Assumes nothing.
+-- `bits::with` meets its contract: the shifted one is not cut off. Assumes nothing.
 use mathlib.Core.Path.{ap}
 use lib.Bits.{bitOr}
 use borrow.Author.Needs.{needs}
-use Rattle.gf2.specs.BitSets.{with}
-use Rattle.gf2.proofs.SetLaws.{shifted-one}
-use Rattle.gf2.proofs.with.Statement.{statement}
-use Rattle.gf2.proofs.with.Tie as tie
+use Rattle.bits.specs.BitSets.{with}
+use Rattle.bits.proofs.SetLaws.{shifted-one}
+use Rattle.bits.proofs.with.Statement.{statement}
+use Rattle.bits.proofs.with.Tie as tie
 
 shl-result : tie.Need-shl-result
 shl-result c = search needs

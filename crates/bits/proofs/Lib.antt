@@ -1,0 +1,5 @@
+pub mod Booleans
+pub mod BitSetLaws
+pub mod XorLaws
+pub mod OverlapLaws
+pub mod SetLaws
