@@ -24,6 +24,13 @@ pub fn equal(a: BitSet, b: BitSet) -> bool
     a == b
 }
 
+// Whether the set has no element.
+pub fn is_empty(set: BitSet) -> bool
+    ensures { λ r. ⌜ r ≡ eqb set 0 ⌝ }
+{
+    set == 0
+}
+
 // Whether the set has this element.
 pub fn has(set: BitSet, bit: usize) -> bool
     requires { ⌜ bit < 64 ⌝ }

@@ -7,7 +7,7 @@ ghost use Rattle.bits.specs.BitSets.{overlap};
 ghost use Rattle.gf2.specs.InnerElimination.{pivotFor, reducePatterns, remaining, pivots, backSubstitute};
 ghost use Rattle.elimination.specs.InnerPatterns.{unitPatterns, ZeroBehind, firstNonempty};
 use bits::BitSet;
-use bits::equal;
+use bits::is_empty;
 use bits::odd_overlap;
 use bits::sum;
 use bits::with;
@@ -58,7 +58,7 @@ pub fn pivot_for(patterns: [BitSet; 64], count: usize, row: BitSet) -> BitSet
 fn first_nonempty(first: BitSet, second: BitSet) -> BitSet
     ensures { λ r. ⌜ r ≡ firstNonempty first second ⌝ }
 {
-    if equal(first, 0) {
+    if is_empty(first) {
         return second;
     }
     first
@@ -115,7 +115,7 @@ pub fn eliminate(
 fn pivot_is_odd(pivot: BitSet, left: BitSet) -> bool
     ensures { λ r. ⌜ r ≡ eqb (overlap pivot left) 1 ⌝ }
 {
-    if equal(pivot, 0) {
+    if is_empty(pivot) {
         return false;
     }
     odd_overlap(pivot, left)

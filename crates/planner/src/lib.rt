@@ -15,7 +15,7 @@ ghost use Rattle.writing.specs.InnerPlanSheets.{EditionFits};
 mod sets;
 
 use bits::BitSet;
-use bits::equal;
+use bits::is_empty;
 use codes::Code;
 use elimination::eliminate;
 use elimination::unit_patterns;
@@ -117,7 +117,7 @@ fn plan_code(code: Code, edition: usize, disk: usize, list: &[u8], buffer: &mut 
     let eliminated = eliminate(units, data_symbols, surviving, symbols);
     let remaining = eliminated.remaining;
     let pattern = odd_pattern(remaining, data_symbols, rows, symbols, wanted);
-    if !equal(pattern, 0) {
+    if !is_empty(pattern) {
         return Planned::Pattern { pattern };
     }
     let pivots = eliminated.pivots;

@@ -9,8 +9,8 @@ ghost use Rattle.gf2.specs.InnerElimination.{backSubstitute};
 ghost use Rattle.planner.specs.InnerWork.{oddPattern, FilledTo};
 ghost use Rattle.writing.specs.InnerPlanSheets.{symbolsIn};
 use bits::BitSet;
-use bits::equal;
 use bits::has;
+use bits::is_empty;
 use elimination::back_substitute;
 use elimination::pivot_for;
 
@@ -45,7 +45,7 @@ pub fn odd_pattern(
     while s < symbols {
         if has(wanted, s) {
             let pattern = pivot_for(patterns, count, rows[s]);
-            if !equal(pattern, 0) {
+            if !is_empty(pattern) {
                 return pattern;
             }
         }

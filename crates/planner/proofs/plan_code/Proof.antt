@@ -61,14 +61,14 @@ eliminate-requires c κs =
 odd-pattern-requires : tie.Need-odd-pattern-requires
 odd-pattern-requires c κs = (c .before .before .before .before .before .before .before .before .before .pre .within .data-to, c .before .eliminate .ensures .2, symbols-small (c .before .before .before .before))
 
-equal-requires : tie.Need-equal-requires
-equal-requires c κs = tt
+is-empty-requires : tie.Need-is-empty-requires
+is-empty-requires c κs = tt
 
 returns : tie.Need-returns
 returns c =
     let start = c .before .before .before .before .before .before .before .before .before .before .before .before in
     worked-pattern (start .args .code) (askedOf start) (start .pre) (eliminated (c .before .before .before .before))
-    (c .before .before .odd-pattern .ensures) (sym (c .before .equal .ensures) ∙ not-true _ (c .if1 .taken)) (start .args .buffer .now)
+    (c .before .before .odd-pattern .ensures) (sym (c .before .is-empty .ensures) ∙ not-true _ (c .if1 .taken)) (start .args .buffer .now)
 
 wanted-subsets-requires : tie.Need-wanted-subsets-requires
 wanted-subsets-requires c κs = symbols-small (c .before .before .before .before .before .before .before .before)
@@ -77,7 +77,7 @@ write-plan-requires : tie.Need-write-plan-requires
 write-plan-requires c κs =
     let start = c .before .before .before .before .before .before .before .before .before .before .before .before .before .before .before in
     plan-fits (start .args .code) (askedOf start) (start .pre) (eliminated (c .before .before .before .before .before .before .before)) (c .before .wanted-subsets .result) (c .before .wanted-subsets .ensures)
-    (c .before .before .before .before .before .odd-pattern .ensures) (sym (c .before .before .before .before .equal .ensures) ∙ not-false _ (c .before .before .before .if1 .left))
+    (c .before .before .before .before .before .odd-pattern .ensures) (sym (c .before .before .before .before .is-empty .ensures) ∙ not-false _ (c .before .before .before .if1 .left))
 
 same-length : tie.Need-same-length
 same-length c = c .before .before .write-plan .kept .1 .1 .1 .1 .1 .1 .1 .0
@@ -88,7 +88,7 @@ returns-2 c =
     let subsets = c .before .before .before .before .wanted-subsets in
     let written = c .before .before .write-plan in
     worked-plan (start .args .code) (askedOf start) (start .pre) (eliminated (c .before .before .before .before .before .before .before .before .before .before)) (subsets .result) (subsets .ensures)
-    (c .before .before .before .before .before .before .before .before .odd-pattern .ensures) (sym (c .before .before .before .before .before .before .before .equal .ensures) ∙ not-false _ (c .before .before .before .before .before .before .if1 .left)) (written .ensures .0) (written .ensures .1 .0) (written .ensures .1 .1)
+    (c .before .before .before .before .before .before .before .before .odd-pattern .ensures) (sym (c .before .before .before .before .before .before .before .is-empty .ensures) ∙ not-false _ (c .before .before .before .before .before .before .if1 .left)) (written .ensures .0) (written .ensures .1 .0) (written .ensures .1 .1)
 
 pub plan-code-spec : {M : Type 1} → statement M
 plan-code-spec =
@@ -99,7 +99,7 @@ plan-code-spec =
     unit-patterns-requires
     eliminate-requires
     odd-pattern-requires
-    equal-requires
+    is-empty-requires
     returns
     wanted-subsets-requires
     write-plan-requires

@@ -36,15 +36,15 @@ pivot-for-requires c κs =
     let pre = c .before .before .before .before .pre in
     (pre .0, pre .1)
 
-equal-requires : tie.Need-equal-requires Inv-loop μ-loop
-equal-requires c κs = tt
+is-empty-requires : tie.Need-is-empty-requires Inv-loop μ-loop
+is-empty-requires c κs = tt
 
 returns : tie.Need-returns Inv-loop μ-loop
 returns c =
     let a = c .before .before .before .before .before .before .before .args in
     let loop = c .before .before .before .before .before .before .loop in
     odd-first (a .patterns) (a .t3) (a .symbols) (has (a .wanted)) (loop .s) (c .before .before .before .before .before .loop-test .taken) (loop .inv .1) (sym (c .before .before .before .before .has .ensures) ∙ c .before .before .before .if1 .taken)
-    (c .before .before .pivot-for .ensures) (sym (c .before .equal .ensures) ∙ not-true _ (c .if2 .taken))
+    (c .before .before .pivot-for .ensures) (sym (c .before .is-empty .ensures) ∙ not-true _ (c .if2 .taken))
 
 add-s : tie.Need-add-s Inv-loop μ-loop
 add-s c = omega (arith, c .before .before .before .before .pre .2, c .before .before .loop-test .taken)
@@ -83,7 +83,7 @@ odd-pattern-spec =
     mul-pivot-for
     array-read-pivot-for
     pivot-for-requires
-    equal-requires
+    is-empty-requires
     returns
     add-s
     loop-less
