@@ -2,8 +2,12 @@
 ghost use mathlib.Core.Path.{_≡_};
 ghost use Prim.Native.Nat.{_*_, _≤_, _<_};
 ghost use lib.Dec.{eqb};
+ghost use Rattle.codes.specs.Lengths.{symbolLengthFaults, stripeFaults};
+ghost use Rattle.refusals.specs.Orders.{outcome, andThen};
 ghost use Rattle.codes.specs.Layouts.{symbolsOf, firstSymbol, heightOf, diskOf, onDisk};
 use bits::BitSet;
+use refusals::Refusal;
+use refusals::Verdict;
 
 // The disks of an array and the symbols on each. Symbols are numbered disk after disk.
 pub struct Layout {
@@ -68,4 +72,21 @@ pub fn is_length(bytes: usize, count: usize, size: usize) -> bool
         return bytes == 0;
     }
     bytes % size == 0 && bytes / size == count
+}
+
+// 31, after the verdict so far.
+pub fn symbol_length_test(verdict: Verdict, size: usize) -> Verdict
+    ensures { λ r. ⌜ outcome r ≡ andThen (outcome verdict) (symbolLengthFaults size) ⌝ }
+{
+    verdict
+        .or_if(size == 0, Refusal::SymbolLength)
+        .or_if(65536 < size, Refusal::SymbolLength)
+}
+
+// 31, 32, after the verdict so far: is this a stripe of so many symbols of `size` bytes?
+pub fn stripe_test(verdict: Verdict, symbols: usize, size: usize, stripe_bytes: usize) -> Verdict
+    ensures { λ r. ⌜ outcome r ≡ andThen (outcome verdict) (stripeFaults symbols size «stripe_bytes») ⌝ }
+{
+    let whole = is_length(stripe_bytes, symbols, size);
+    symbol_length_test(verdict, size).or_if(!whole, Refusal::StripeLength)
 }

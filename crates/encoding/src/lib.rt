@@ -7,6 +7,7 @@ ghost use Rattle.refusals.specs.Orders.{outcome, andThen};
 ghost use Rattle.encoding.specs.Encoding.{encodeFaults, encodeVerdict, encodedStripe};
 use bits::BitSet;
 use codes::is_length;
+use codes::symbol_length_test;
 use refusals::Refusal;
 use refusals::Verdict;
 use sheets::read_code;
@@ -85,9 +86,7 @@ fn encode_test(
 ) -> Verdict
     ensures { λ r. ⌜ outcome r ≡ andThen (outcome «sheet_verdict») (encodeFaults symbols «data_symbols» size «data_bytes» «stripe_bytes») ⌝ }
 {
-    sheet_verdict
-        .or_if(size == 0, Refusal::SymbolLength)
-        .or_if(65536 < size, Refusal::SymbolLength)
+    symbol_length_test(sheet_verdict, size)
         .or_if(
             !is_length(data_bytes, data_symbols, size),
             Refusal::DataLength,

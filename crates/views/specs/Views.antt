@@ -5,7 +5,7 @@ use Prim.Native.Nat.{ℕ, _-_, _*_}
 use lib.Dec.{leb}
 use lib.ListN.{length, take, drop}
 use Rattle.codes.specs.Layouts.{symbolsOf, firstSymbol, heightOf, onDisk}
-use Rattle.codes.specs.Lengths.{symbolLengthFaults, lengthFault}
+use Rattle.codes.specs.Lengths.{lengthFault, stripeFaults}
 use Rattle.codes.specs.declared.Layout.{Layout}
 use Rattle.gf2.specs.Stripes.{symbol}
 use Rattle.refusals.specs.Orders.{Fault, _gets_, andThen, ifFine, Outcome}
@@ -22,10 +22,7 @@ layoutOf sheet = reading sheet .code .layout
 -- 7, 31, 32
 abbrev pub stripFaults : Layout → ℕ → ℕ → ℕ → List Fault
 stripFaults layout disk size stripeBytes =
-    (leb (layout .disks) disk gets 7 at 0)
-    ∷ symbolLengthFaults size
-    ++ lengthFault stripeBytes (symbolsOf layout) size (32 at 0)
-    ∷ []
+    (leb (layout .disks) disk gets 7 at 0) ∷ stripeFaults (symbolsOf layout) size stripeBytes
 
 -- Refusals in the order code sheet, 7, 31, 32
 unfoldable pub stripVerdict : List ℕ → ℕ → ℕ → ℕ → Outcome

@@ -7,6 +7,7 @@ ghost use Rattle.views.specs.Views.{stripFaults, stripVerdict, stripShow
 ghost use Rattle.views.specs.Places.{nowhere, stripPlace, symbolPlace, sliceOf, Shows, beginning};
 use codes::Layout;
 use codes::is_length;
+use codes::stripe_test;
 use refusals::Refusal;
 use refusals::Verdict;
 use sheets::read_code;
@@ -35,10 +36,12 @@ fn strip_test(read: Verdict, layout: Layout, disk: usize, size: usize, bytes: us
     ensures { λ r. ⌜ outcome r ≡ andThen (outcome read) (stripFaults layout disk size bytes) ⌝ }
 {
     let symbols = layout.symbols();
-    read.or_if(layout.disks <= disk, Refusal::NoSuchDisk)
-        .or_if(size == 0, Refusal::SymbolLength)
-        .or_if(65536 < size, Refusal::SymbolLength)
-        .or_if(!is_length(bytes, symbols, size), Refusal::StripeLength)
+    stripe_test(
+        read.or_if(layout.disks <= disk, Refusal::NoSuchDisk),
+        symbols,
+        size,
+        bytes,
+    )
 }
 
 // The order 7, 31, 32, 35, 38 behind the verdict on the code sheet.

@@ -2,43 +2,38 @@
 use Rattle.encoding.proofs.encode_test.Statement.{statement}
 use Rattle.encoding.proofs.encode_test.Tie as tie
 
-or-if-requires : tie.Need-or-if-requires
-or-if-requires c κs = tt
-
-or-if-requires-2 : tie.Need-or-if-requires-2
-or-if-requires-2 c κs = tt
+symbol-length-test-requires : tie.Need-symbol-length-test-requires
+symbol-length-test-requires c κs = tt
 
 is-length-requires : tie.Need-is-length-requires
 is-length-requires c κs = tt
 
-or-if-requires-3 : tie.Need-or-if-requires-3
-or-if-requires-3 c κs = tt
+or-if-requires : tie.Need-or-if-requires
+or-if-requires c κs = tt
 
 is-length-requires-2 : tie.Need-is-length-requires-2
 is-length-requires-2 c κs = tt
 
-or-if-requires-4 : tie.Need-or-if-requires-4
-or-if-requires-4 c κs = tt
+or-if-requires-2 : tie.Need-or-if-requires-2
+or-if-requires-2 c κs = tt
 
 returns : tie.Need-returns
 returns c =
     rw (
-      c .or-if4 .ensures,
+      c .or-if2 .ensures,
       c .before .is-length2 .ensures,
-      c .before .before .or-if3 .ensures,
+      c .before .before .or-if .ensures,
       c .before .before .before .is-length .ensures,
-      c .before .before .before .before .or-if2 .ensures,
-      c .before .before .before .before .before .or-if .ensures,
+      c .before .before .before .before .symbol-length-test .ensures,
     )
 
 pub encode-test-spec : {M : Type 1} → statement M
 encode-test-spec =
     tie.close
     (tie.spec
-    or-if-requires
-    or-if-requires-2
+    symbol-length-test-requires
     is-length-requires
-    or-if-requires-3
+    or-if-requires
     is-length-requires-2
-    or-if-requires-4
+    or-if-requires-2
     returns)

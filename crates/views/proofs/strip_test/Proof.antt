@@ -8,37 +8,11 @@ symbols-requires c κs = c .pre
 or-if-requires : tie.Need-or-if-requires
 or-if-requires c κs = tt
 
-or-if-requires-2 : tie.Need-or-if-requires-2
-or-if-requires-2 c κs = tt
-
-or-if-requires-3 : tie.Need-or-if-requires-3
-or-if-requires-3 c κs = tt
-
-is-length-requires : tie.Need-is-length-requires
-is-length-requires c κs = tt
-
-or-if-requires-4 : tie.Need-or-if-requires-4
-or-if-requires-4 c κs = tt
+stripe-test-requires : tie.Need-stripe-test-requires
+stripe-test-requires c κs = tt
 
 returns : tie.Need-returns
-returns c =
-    rw (
-      c .or-if4 .ensures,
-      c .before .is-length .ensures,
-      c .before .before .before .before .before .before .symbols .ensures,
-      c .before .before .or-if3 .ensures,
-      c .before .before .before .or-if2 .ensures,
-      c .before .before .before .before .or-if .ensures,
-    )
+returns c = rw (c .stripe-test .ensures, c .before .before .before .symbols .ensures, c .before .or-if .ensures)
 
 pub strip-test-spec : {M : Type 1} → statement M
-strip-test-spec =
-    tie.close
-    (tie.spec
-    symbols-requires
-    or-if-requires
-    or-if-requires-2
-    or-if-requires-3
-    is-length-requires
-    or-if-requires-4
-    returns)
+strip-test-spec = tie.close (tie.spec symbols-requires or-if-requires stripe-test-requires returns)
