@@ -6,6 +6,9 @@ use std::ffi::{OsStr, OsString};
 use std::os::unix::ffi::OsStrExt;
 use std::path::PathBuf;
 
+/// The options that take no value.
+const FLAGS: &[&str] = &["--in-place"];
+
 /// What follows a command's name, sorted. A question removes what it answers, so that `finish` finds what nobody asked for.
 #[derive(Debug)]
 pub struct Arguments {
@@ -16,7 +19,7 @@ pub struct Arguments {
 }
 
 impl Arguments {
-    /// Sorts the words of a command that knows `known` options, each with a value.
+    /// Sorts the words of a command that knows `known` options, each with a value but the flags.
     pub fn read(
         command: &'static str,
         known: &'static [&'static str],
@@ -59,8 +62,13 @@ impl Arguments {
         if self.options.iter().any(|(taken, _)| *taken == name) {
             return Err(self.misuse(format!("{name} is given twice")));
         }
-        let Some(value) = joined.or_else(|| given.next()) else {
-            return Err(self.misuse(format!("{name} needs a value")));
+        let value = match (FLAGS.contains(&name), joined) {
+            (true, None) => OsString::new(),
+            (true, Some(_)) => return Err(self.misuse(format!("{name} takes no value"))),
+            (false, joined) => match joined.or_else(|| given.next()) {
+                Some(value) => value,
+                None => return Err(self.misuse(format!("{name} needs a value"))),
+            },
         };
         self.options.push((name, value));
         Ok(())
@@ -98,6 +106,11 @@ impl Arguments {
     pub fn number_option(&mut self, name: &str) -> Result<Option<u64>, Failure> {
         let value = self.option(name);
         value.map(|word| self.as_number(name, &word)).transpose()
+    }
+
+    /// Whether a flag is given.
+    pub fn flag(&mut self, name: &str) -> bool {
+        self.option(name).is_some()
     }
 
     /// The symbols that `--want` asks for, if it is given.

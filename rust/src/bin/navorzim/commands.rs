@@ -9,7 +9,7 @@ use crate::text::Style;
 use crate::wanted::{self, Request, Wanted};
 use crate::{demo, help, svg, text};
 use navorzim::{Family, Planning, Refusal};
-use std::path::Path;
+use std::path::{Path, PathBuf};
 
 /// A command: its name, its options, its help and what it does.
 pub struct Command {
@@ -26,7 +26,7 @@ pub const COMMANDS: &[Command] = &[
     Command { name: "encode", options: &["-o", "--symbol"], help: help::ENCODE, run: encode },
     Command { name: "plan", options: &["-o", "--want"], help: help::PLAN, run: plan },
     Command { name: "check", options: &[], help: help::CHECK, run: check },
-    Command { name: "rebuild", options: &["-o", "--symbol"], help: help::REBUILD, run: rebuild },
+    Command { name: "rebuild", options: &["-o", "--in-place", "--symbol"], help: help::REBUILD, run: rebuild },
     Command { name: "strip", options: &["-o", "--symbol"], help: help::STRIP, run: strip },
     Command { name: "show", options: &["--disk", "--plan", "--svg", "--want"], help: help::SHOW, run: show },
 ];
@@ -88,7 +88,7 @@ fn encode(arguments: &mut Arguments) -> Result<String, Failure> {
     // With no data the library refuses all that goes before the data's length, in its own order, and then that length.
     all_but(navorzim::encode(&code.sheet, symbol, &[], &mut []), Refusal::DataLength).map_err(explain)?;
     let mut stripe = vec![0; Pieces::stripes(&code, symbol).length()];
-    let stripes = stream::each(&data, &Pieces::data(&code, symbol), &output, &[&code.file, &data], |piece, output| {
+    let stripes = stream::each(&data, &Pieces::data(&code, symbol), Some(&output), &[&code.file], |piece, output| {
         navorzim::encode(&code.sheet, symbol, piece, &mut stripe).map_err(explain)?;
         output.write(&stripe)
     })?;
@@ -146,9 +146,8 @@ fn rebuild(arguments: &mut Arguments) -> Result<String, Failure> {
     let (code, disk) = (arguments.file("CODE")?, arguments.number("DISK")?);
     let (plan, stripes) = (arguments.file("PLAN")?, arguments.file("STRIPES")?);
     let symbol = arguments.symbol_length()?;
-    let output = arguments.file_option("-o")?;
+    let output = rebuilding_to(arguments)?;
     arguments.finish()?;
-    let output = output.unwrap_or_else(|| stripes.clone());
     let (code, plan) = (Code::open(&code)?, Plan::open(&plan)?);
     let explain = |refusal| code.explain(refusal, disk, Some(&plan), symbol);
     // As in `encode`: all that goes before the stripe's length.
@@ -157,7 +156,7 @@ fn rebuild(arguments: &mut Arguments) -> Result<String, Failure> {
     let count = stream::each(
         &stripes,
         &Pieces::stripes(&code, symbol),
-        &output,
+        output.as_deref(),
         &[&code.file, &plan.file],
         |stripe, output| {
             // The library checks the plan again, for every stripe: none is believed because it was once believed.
@@ -165,8 +164,27 @@ fn rebuild(arguments: &mut Arguments) -> Result<String, Failure> {
             output.write(stripe)
         },
     )?;
-    let wanted = plan.wanted().words(&code, disk);
-    Ok(format!("rebuilt {wanted} in {}: {}\n", counted(count, "stripe"), output.display()))
+    // The library can't know which L, disk or code the stripes were made with, so the user is told what was believed.
+    Ok(format!(
+        "rebuilt {} in {}: {}\n  by symbols of {} (L), code {} ({})\n",
+        plan.wanted().words(&code, disk),
+        counted(count, "stripe"),
+        output.as_ref().unwrap_or(&stripes).display(),
+        counted(symbol, "byte"),
+        code.file.display(),
+        code.title()
+    ))
+}
+
+/// Where the rebuilt stripes go: a file, or none for the place of those that were read. A wrong L, disk or code can't always be
+/// noticed, and the only copy isn't replaced unasked.
+fn rebuilding_to(arguments: &mut Arguments) -> Result<Option<PathBuf>, Failure> {
+    let output = arguments.file_option("-o")?;
+    match (&output, arguments.flag("--in-place")) {
+        (Some(_), true) => Err(arguments.misuse("-o and --in-place exclude each other".to_string())),
+        (None, false) => Err(arguments.misuse("-o OUT is missing, or --in-place, which replaces STRIPES".to_string())),
+        _ => Ok(output),
+    }
 }
 
 fn strip(arguments: &mut Arguments) -> Result<String, Failure> {
@@ -178,7 +196,7 @@ fn strip(arguments: &mut Arguments) -> Result<String, Failure> {
     let explain = |refusal| code.explain(refusal, disk, None, symbol);
     all_but(navorzim::strip(&code.sheet, disk, symbol, &[]).map(|_| ()), Refusal::StripeLength).map_err(explain)?;
     let count =
-        stream::each(&stripes, &Pieces::stripes(&code, symbol), &output, &[&code.file, &stripes], |stripe, output| {
+        stream::each(&stripes, &Pieces::stripes(&code, symbol), Some(&output), &[&code.file], |stripe, output| {
             let strip = navorzim::strip(&code.sheet, disk, symbol, stripe).map_err(explain)?;
             output.write(strip)
         })?;

@@ -94,7 +94,7 @@ impl Demo {
 
         self.command("plan code.sheet 0 -o plan.sheet")?;
         self.command("check code.sheet 0 plan.sheet")?;
-        self.command("rebuild code.sheet 0 plan.sheet --symbol 64 stripes.bin")?;
+        self.command("rebuild code.sheet 0 plan.sheet --symbol 64 stripes.bin --in-place")?;
         let rebuilt = self.read("stripes.bin")?;
         self.note(&format!("disk 0 begins  {}", first_line(&rebuilt)));
         self.must(rebuilt == whole, "the stripes are not as they were")?;
@@ -113,7 +113,7 @@ impl Demo {
         let ruined = ruin(&whole);
         self.write("stripes.bin", &ruined)?;
         self.command("plan code.sheet 0 --want 2 -o row2.sheet")?;
-        self.command("rebuild code.sheet 0 row2.sheet --symbol 64 stripes.bin")?;
+        self.command("rebuild code.sheet 0 row2.sheet --symbol 64 stripes.bin --in-place")?;
         let rebuilt = self.read("stripes.bin")?;
         self.note(&format!("row 2 holds    {}", first_line(&each(&rebuilt, 2))));
         for symbol in 0..SYMBOLS {
@@ -137,7 +137,7 @@ impl Demo {
         self.note(&format!("disk 0 dies:   {}", first_line(&ruined)));
 
         self.refused("check anew.sheet 0 plan.sheet", 21)?;
-        let rebuild = "rebuild anew.sheet 0 plan.sheet --symbol 64 stripes.bin";
+        let rebuild = "rebuild anew.sheet 0 plan.sheet --symbol 64 stripes.bin --in-place";
         self.refused(rebuild, 21)?;
         let after = self.read("stripes.bin")?;
         self.must(after == ruined, "a refused rebuild changed the stripes")?;
@@ -148,7 +148,7 @@ impl Demo {
 
         self.note("planned anew, for the layout in use:");
         self.command("plan anew.sheet 0 -o fresh.sheet")?;
-        self.command("rebuild anew.sheet 0 fresh.sheet --symbol 64 stripes.bin")?;
+        self.command("rebuild anew.sheet 0 fresh.sheet --symbol 64 stripes.bin --in-place")?;
         let rebuilt = self.read("stripes.bin")?;
         self.must(rebuilt == whole, "the stripes are not as they were")?;
         self.note(&format!("disk 0 begins  {}", first_line(&rebuilt)));
@@ -190,8 +190,9 @@ impl Demo {
     fn command(&mut self, line: &str) -> Result<(), Failure> {
         self.note(&format!("$ navorzim {line}"));
         let answer = self.run(line)?;
-        let answer = self.shortened(&answer);
-        self.note(&format!("    {}", answer.trim_end()));
+        for line in self.shortened(&answer).lines() {
+            self.note(&format!("    {line}"));
+        }
         Ok(())
     }
 

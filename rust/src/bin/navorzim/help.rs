@@ -100,17 +100,24 @@ example: navorzim check code.sheet 0 plan.sheet
 ";
 
 pub const REBUILD: &str = "\
-usage: navorzim rebuild CODE DISK PLAN --symbol L STRIPES [-o OUT]
+usage: navorzim rebuild CODE DISK PLAN --symbol L STRIPES -o OUT
+       navorzim rebuild CODE DISK PLAN --symbol L STRIPES --in-place
 
 Reads the code sheet CODE, the plan sheet PLAN and the stripes of N × L bytes in STRIPES;
-writes them with the strip of disk DISK rebuilt in each to OUT, or in place of STRIPES. A plan
-made with --want rebuilds the rows that it lists; the disk's other rows stay as they are.
-The plan is checked for every stripe; what the lost strip holds doesn't matter.
+writes them with the strip of disk DISK rebuilt in each to OUT or, if --in-place asks for it,
+in place of STRIPES. A plan made with --want rebuilds the rows that it lists; the disk's other
+rows stay as they are. The plan is checked for every stripe; what the lost strip holds doesn't
+matter.
+
+A wrong L, disk or code is refused only where the lengths or the plan don't fit it. Where they
+do, good symbols are overwritten: the answer says which L, disk and code were used, so keep
+STRIPES until it has been read.
 
 Refused: the code sheet (1 to 6), 7 (no such disk), the plan (11 to 23), 31 (L is 1 to
 65,536), 32 (STRIPES isn't whole stripes). STRIPES is then as it was.
 
-example: navorzim rebuild code.sheet 0 plan.sheet --symbol 64 stripes.bin
+example: navorzim rebuild code.sheet 0 plan.sheet --symbol 64 stripes.bin -o rebuilt.bin
+example: navorzim rebuild code.sheet 0 plan.sheet --symbol 64 stripes.bin --in-place
 ";
 
 pub const STRIP: &str = "\

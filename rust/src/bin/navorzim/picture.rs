@@ -131,7 +131,7 @@ impl Picture {
         let cells =
             code.sums.iter().enumerate().map(|(symbol, &sum)| Cell { symbol, mark: mark(code, story, symbol), sum });
         Picture {
-            title: title(code),
+            title: code.title(),
             notes: notes(code, story),
             disks: code.disks,
             rows: code.rows,
@@ -160,13 +160,6 @@ impl Picture {
             .map(|mark| (mark, self.cells.iter().filter(|cell| cell.mark == mark).count()))
             .filter(|&(_, cells)| cells > 0)
             .collect()
-    }
-}
-
-fn title(code: &Code) -> String {
-    match code.family() {
-        Some(family) => format!("{family}: {}", code.shape()),
-        None => code.shape(),
     }
 }
 

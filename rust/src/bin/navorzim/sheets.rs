@@ -79,6 +79,14 @@ impl Code {
         )
     }
 
+    /// The family, if it is a known one, and the shape.
+    pub fn title(&self) -> String {
+        match self.family() {
+            Some(family) => format!("{family}: {}", self.shape()),
+            None => self.shape(),
+        }
+    }
+
     /// The family that this very sheet belongs to.
     pub fn family(&self) -> Option<String> {
         let (n, r) = (self.disks as u64, self.rows as u64);

@@ -51,17 +51,21 @@ impl Pieces {
     }
 }
 
-/// Works on each piece of a file in turn and puts what comes out of it in place of the target; answers how many there were.
+/// Works on each piece of a file in turn and puts what comes out of it in place of the target, or of the input where there is no
+/// target; answers how many there were. No file of `kept` is replaced, nor the input where a target is named.
 pub fn each(
     input: &Path,
     pieces: &Pieces,
-    target: &Path,
+    target: Option<&Path>,
     kept: &[&Path],
     mut work: impl FnMut(&mut [u8], &mut Replacement) -> Result<(), Failure>,
 ) -> Result<u64, Failure> {
     let mut input = Input::open(input)?;
     let count = pieces.count(&input)?;
-    let mut output = Replacement::begin(target, kept)?;
+    let mut output = match target {
+        Some(target) => Replacement::begin(target, &[kept, &[input.path()]].concat())?,
+        None => Replacement::begin(input.path(), kept)?,
+    };
     let mut piece = vec![0; pieces.length()];
     let mut progress = Progress::new(count);
     for done in 0..count {
