@@ -66,14 +66,13 @@ impl Folder {
         let mut command = Command::new(TOOL);
         let command = command.args(words).current_dir(&self.0);
         let command = command.env("TMPDIR", &self.0).env_remove("COLUMNS");
-        let output = command.output().expect("the tool runs");
-        let ran = Ran {
-            status: output.status.code().expect("it ends by itself"),
-            out: String::from_utf8(output.stdout).expect("text"),
-            err: String::from_utf8(output.stderr).expect("text"),
-        };
-        assert!(!ran.err.contains("panicked"), "{}", ran.err);
-        ran
+        Ran::of(command)
+    }
+
+    /// How many temporary files of the tool there are.
+    pub fn temporaries(&self) -> usize {
+        let names = self.contents().into_keys();
+        names.filter(|path| path.extension().is_some_and(|end| end == "part")).count()
     }
 
     /// Runs a line that must succeed.
@@ -121,6 +120,20 @@ pub struct Ran {
     pub status: i32,
     pub out: String,
     pub err: String,
+}
+
+impl Ran {
+    /// Runs the tool to its own end.
+    pub fn of(command: &mut Command) -> Ran {
+        let output = command.output().expect("the tool runs");
+        let ran = Ran {
+            status: output.status.code().expect("it ends by itself"),
+            out: String::from_utf8(output.stdout).expect("text"),
+            err: String::from_utf8(output.stderr).expect("text"),
+        };
+        assert!(!ran.err.contains("panicked"), "{}", ran.err);
+        ran
+    }
 }
 
 pub const P1: [u8; 8] = [0x11, 0x22, 0x44, 0x88, 0x55, 0xAA, 0x99, 0x66];

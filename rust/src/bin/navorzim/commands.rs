@@ -1,13 +1,12 @@
 //! The commands. Each reads its files, asks the library, and answers the text for standard output.
 use crate::arguments::{shown, Arguments};
 use crate::failure::{Failure, Refused};
-use crate::files;
 use crate::picture::{Picture, Story, Stuck};
 use crate::sheets::{counted, Code, Plan};
 use crate::stream::{self, Pieces};
 use crate::text::Style;
 use crate::wanted::{self, Request, Wanted};
-use crate::{demo, help, svg, text};
+use crate::{demo, help, replacement, svg, text};
 use navorzim::{Family, Planning, Refusal};
 use std::path::{Path, PathBuf};
 
@@ -73,7 +72,7 @@ fn family(arguments: &mut Arguments) -> Result<String, Failure> {
         Failure::Refused(Refused { refusal, detail: format!("{} {given}", name.to_string_lossy()), file: None })
     };
     let sheet = family.sheet().map_err(unlisted)?;
-    files::replace(&output, &[], &sheet)?;
+    replacement::replace(&output, &[], &sheet)?;
     let length = sheet.len();
     let code = Code::read(&output, sheet).map_err(unlisted)?;
     Ok(format!("wrote {}: {}, {length} bytes\n", output.display(), code.shape()))
@@ -114,7 +113,7 @@ fn plan(arguments: &mut Arguments) -> Result<String, Failure> {
             return Err(no_plan(text, code, &stuck));
         }
     };
-    files::replace(&output, &[&code.file], &plan)?;
+    replacement::replace(&output, &[&code.file], &plan)?;
     let length = plan.len();
     let plan = Plan { file: output, sheet: plan };
     Ok(format!(
@@ -233,7 +232,7 @@ fn show(arguments: &mut Arguments) -> Result<String, Failure> {
     let picture = Picture::new(&code, &story);
     if let Some(drawing) = drawing {
         let plan = plan.as_deref().unwrap_or(Path::new(""));
-        files::replace(&drawing, &[&code.file, plan], svg::draw(&picture).as_bytes())?;
+        replacement::replace(&drawing, &[&code.file, plan], svg::draw(&picture).as_bytes())?;
     }
     let text = text::draw(&picture, Style::of_stdout());
     match story {

@@ -3,7 +3,7 @@
 use crate::arguments::Arguments;
 use crate::commands;
 use crate::failure::Failure;
-use crate::files::{replace, unique_name};
+use crate::replacement::{replace, unique_name};
 use std::ffi::OsString;
 use std::fs;
 use std::path::{Path, PathBuf};

@@ -1,15 +1,14 @@
-//! Files: sheets read with a limit, stripes read one by one, and outputs that replace the old file whole or not at all.
+//! Files that are read: sheets with a limit, stripes piece by piece, and how it is noticed that somebody else wrote one meanwhile.
 use crate::failure::Failure;
-use std::fs::{self, File, Metadata, OpenOptions};
-use std::io::{self, BufReader, BufWriter, ErrorKind, Read, Write};
-use std::os::unix::fs::{fchown, MetadataExt};
+use std::fs::{self, File, Metadata, OpenOptions, TryLockError};
+use std::io::{self, BufReader, ErrorKind, Read};
+use std::os::unix::fs::MetadataExt;
 use std::path::{Path, PathBuf};
-use std::time::{SystemTime, UNIX_EPOCH};
 
-const BUFFER: usize = 1 << 18;
+pub const BUFFER: usize = 1 << 18;
 
 /// A failure at a file.
-fn trouble(verb: &str, path: &Path, why: impl std::fmt::Display) -> Failure {
+pub fn trouble(verb: &str, path: &Path, why: impl std::fmt::Display) -> Failure {
     Failure::File(format!("can't {verb} {}: {why}", path.display()))
 }
 
@@ -24,225 +23,156 @@ pub fn read_sheet(path: &Path, longest: usize) -> Result<Vec<u8>, Failure> {
     read().map_err(|error| trouble("read", path, error))
 }
 
+/// Which file it is, how long, and when it was last touched.
+#[derive(Clone, Debug, PartialEq, Eq)]
+pub struct Stamp {
+    device: u64,
+    inode: u64,
+    length: u64,
+    modified: (i64, i64),
+    changed: (i64, i64),
+}
+
+impl Stamp {
+    pub fn of(metadata: &Metadata) -> Stamp {
+        Stamp {
+            device: metadata.dev(),
+            inode: metadata.ino(),
+            length: metadata.len(),
+            modified: (metadata.mtime(), metadata.mtime_nsec()),
+            changed: (metadata.ctime(), metadata.ctime_nsec()),
+        }
+    }
+}
+
+/// What a file is opened for.
+#[derive(Clone, Copy, Debug, PartialEq, Eq)]
+pub enum Purpose {
+    Read,
+    /// another file will take its place; it is opened for writing, since whoever may not write it may not replace it either
+    Replace,
+    ReadAndReplace,
+}
+
+impl Purpose {
+    fn verb(self) -> &'static str {
+        match self {
+            Purpose::Read => "read",
+            Purpose::Replace | Purpose::ReadAndReplace => "write",
+        }
+    }
+}
+
+/// A regular file that is open and locked, and how it was found.
+#[derive(Debug)]
+pub struct Held {
+    pub path: PathBuf,
+    pub file: File,
+    found: Stamp,
+    purpose: Purpose,
+}
+
+impl Held {
+    pub fn open(path: &Path, purpose: Purpose) -> Result<Held, Failure> {
+        let fails = |error: io::Error| trouble(purpose.verb(), path, error);
+        // Before it is opened, since opening a pipe waits for a writer.
+        let metadata = fs::metadata(path).map_err(fails)?;
+        if !metadata.is_file() {
+            return Err(trouble(purpose.verb(), path, unusable(&metadata)));
+        }
+        if purpose != Purpose::Read && metadata.permissions().readonly() {
+            return Err(trouble("write", path, "it is write-protected"));
+        }
+        let mut options = OpenOptions::new();
+        let options = options.read(purpose != Purpose::Replace).write(purpose != Purpose::Read);
+        let file = options.open(path).map_err(fails)?;
+        lock(&file, purpose).map_err(|why| trouble(purpose.verb(), path, why))?;
+        let found = Stamp::of(&file.metadata().map_err(fails)?);
+        Ok(Held { path: path.to_path_buf(), file, found, purpose })
+    }
+
+    /// Refuses if the file isn't the one that was found, under its name or as it is open: pieces of two states would be put
+    /// together as one, or somebody's newer content would be lost.
+    pub fn unchanged(&self) -> Result<(), Failure> {
+        let now = [self.file.metadata(), fs::metadata(&self.path)];
+        if now.iter().all(|now| now.as_ref().is_ok_and(|now| Stamp::of(now) == self.found)) {
+            Ok(())
+        } else {
+            Err(self.changed())
+        }
+    }
+
+    fn changed(&self) -> Failure {
+        match self.purpose {
+            Purpose::Read => trouble("use", &self.path, "it changed while it was read"),
+            Purpose::Replace | Purpose::ReadAndReplace => {
+                trouble("write", &self.path, "somebody else wrote or replaced it meanwhile; it is left as it is")
+            }
+        }
+    }
+
+    /// The same open file, under the same lock.
+    pub fn again(&self) -> Result<Held, Failure> {
+        let file = self.file.try_clone().map_err(|error| trouble(self.purpose.verb(), &self.path, error))?;
+        Ok(Held { path: self.path.clone(), file, found: self.found.clone(), purpose: self.purpose })
+    }
+}
+
+/// Readers share a lock; whoever replaces the file holds it alone. Nobody is waited for.
+fn lock(file: &File, purpose: Purpose) -> Result<(), String> {
+    let locked = match purpose {
+        Purpose::Read => file.try_lock_shared(),
+        Purpose::Replace | Purpose::ReadAndReplace => file.try_lock(),
+    };
+    match locked {
+        Ok(()) => Ok(()),
+        Err(TryLockError::WouldBlock) => Err("another program has locked it".to_string()),
+        // A file system without locks: the comparison at the end is all there is.
+        Err(TryLockError::Error(error)) if error.kind() == ErrorKind::Unsupported => Ok(()),
+        Err(TryLockError::Error(error)) => Err(error.to_string()),
+    }
+}
+
 /// A file of many stripes, or of their data, that is read piece by piece.
 pub struct Input {
-    path: PathBuf,
+    held: Held,
     reader: BufReader<File>,
-    length: u64,
-    modified: Option<SystemTime>,
 }
 
 impl Input {
     /// Opens a regular file: its length has to be known before the first piece is worked on.
-    pub fn open(path: &Path) -> Result<Input, Failure> {
-        // Before it is opened, since opening a pipe waits for a writer.
-        let found = fs::metadata(path).map_err(|error| trouble("read", path, error))?;
-        if !found.is_file() {
-            return Err(trouble("read", path, unusable(&found)));
-        }
-        let file = File::open(path).map_err(|error| trouble("read", path, error))?;
-        let opened = file.metadata().map_err(|error| trouble("read", path, error))?;
-        Ok(Input {
-            path: path.to_path_buf(),
-            reader: BufReader::with_capacity(BUFFER, file),
-            length: opened.len(),
-            modified: opened.modified().ok(),
-        })
+    pub fn open(path: &Path, purpose: Purpose) -> Result<Input, Failure> {
+        let held = Held::open(path, purpose)?;
+        let reader = BufReader::with_capacity(BUFFER, held.again()?.file);
+        Ok(Input { held, reader })
+    }
+
+    pub fn held(&self) -> &Held {
+        &self.held
     }
 
     pub fn path(&self) -> &Path {
-        &self.path
+        &self.held.path
     }
 
     pub fn length(&self) -> u64 {
-        self.length
+        self.held.found.length
     }
 
     /// Fills the buffer with the next piece.
     pub fn read(&mut self, piece: &mut [u8]) -> Result<(), Failure> {
         let read = self.reader.read_exact(piece);
         read.map_err(|error| match error.kind() {
-            ErrorKind::UnexpectedEof => changed(&self.path),
-            _ => trouble("read", &self.path, error),
+            ErrorKind::UnexpectedEof => self.held.changed(),
+            _ => trouble("read", self.path(), error),
         })
     }
-
-    /// Refuses what was read if somebody wrote the file meanwhile: pieces of two states would be put together as one.
-    pub fn unchanged(&self) -> Result<(), Failure> {
-        let now = self.reader.get_ref().metadata();
-        let now = now.map_err(|error| trouble("read", &self.path, error))?;
-        if now.len() == self.length && now.modified().ok() == self.modified {
-            Ok(())
-        } else {
-            Err(changed(&self.path))
-        }
-    }
 }
 
-fn changed(path: &Path) -> Failure {
-    trouble("use", path, "it changed while it was read")
-}
-
-/// A new file beside the target that takes its place when it is complete. Until then the target is as it was, and if it is
-/// dropped before that, nothing is left behind.
-pub struct Replacement {
-    /// the target as the caller named it
-    named: PathBuf,
-    target: PathBuf,
-    /// none once it has taken the target's place
-    temporary: Option<PathBuf>,
-    writer: BufWriter<File>,
-}
-
-impl Replacement {
-    /// Begins a new version of the target, which must be none of `kept`.
-    pub fn begin(path: &Path, kept: &[&Path]) -> Result<Replacement, Failure> {
-        let (target, old) = find_target(path)?;
-        if old.is_some() {
-            keep_apart(path, &target, kept)?;
-        }
-        let created = create_beside(&target);
-        let (temporary, file) = created.map_err(|error| trouble("write", path, error))?;
-        let replacement = Replacement {
-            named: path.to_path_buf(),
-            target,
-            temporary: Some(temporary),
-            writer: BufWriter::with_capacity(BUFFER, file),
-        };
-        if let Some(old) = old {
-            // Before the first byte: what was kept from others' eyes stays so.
-            let taken = take_over(replacement.writer.get_ref(), &old);
-            taken.map_err(|error| trouble("write", path, error))?;
-        }
-        Ok(replacement)
-    }
-
-    /// Adds bytes.
-    pub fn write(&mut self, bytes: &[u8]) -> Result<(), Failure> {
-        let written = self.writer.write_all(bytes);
-        written.map_err(|error| trouble("write", &self.named, error))
-    }
-
-    /// Brings all bytes to the disk, and then the new file to its place.
-    pub fn finish(mut self) -> Result<(), Failure> {
-        let placed = self.place();
-        placed.map_err(|error| trouble("write", &self.named, error))
-    }
-
-    fn place(&mut self) -> io::Result<()> {
-        self.writer.flush()?;
-        self.writer.get_ref().sync_all()?;
-        if let Some(temporary) = &self.temporary {
-            fs::rename(temporary, &self.target)?;
-        }
-        self.temporary = None;
-        // The new name is in the folder, so the folder too has to reach the disk; some file systems can't be asked for that.
-        if let Ok(folder) = File::open(folder_of(&self.target)) {
-            let _ = folder.sync_all();
-        }
-        Ok(())
-    }
-}
-
-impl Drop for Replacement {
-    fn drop(&mut self) {
-        if let Some(temporary) = &self.temporary {
-            let _ = fs::remove_file(temporary);
-        }
-    }
-}
-
-/// Writes a small file whole.
-pub fn replace(path: &Path, kept: &[&Path], bytes: &[u8]) -> Result<(), Failure> {
-    let mut replacement = Replacement::begin(path, kept)?;
-    replacement.write(bytes)?;
-    replacement.finish()
-}
-
-/// The file that a path means, links followed so that a link stays one, and what stands there now.
-fn find_target(path: &Path) -> Result<(PathBuf, Option<Metadata>), Failure> {
-    let metadata = match fs::metadata(path) {
-        Ok(metadata) => metadata,
-        Err(error) if error.kind() == ErrorKind::NotFound => return new_target(path),
-        Err(error) => return Err(trouble("write", path, error)),
-    };
-    // Renaming over a device or a pipe would put a plain file in its place.
-    if !metadata.is_file() {
-        return Err(trouble("write", path, unusable(&metadata)));
-    }
-    if metadata.permissions().readonly() {
-        return Err(trouble("write", path, "it is write-protected"));
-    }
-    let target = fs::canonicalize(path).map_err(|error| trouble("write", path, error))?;
-    Ok((target, Some(metadata)))
-}
-
-fn new_target(path: &Path) -> Result<(PathBuf, Option<Metadata>), Failure> {
-    if fs::symlink_metadata(path).is_ok() {
-        return Err(trouble("write", path, "it is a link to nothing"));
-    }
-    // `folder/` has a file name for Rust, but a file can't have that name.
-    let ends_open = path.as_os_str().as_encoded_bytes().ends_with(b"/");
-    if path.file_name().is_none() || ends_open {
-        return Err(trouble("write", path, "it is no name for a file"));
-    }
-    Ok((path.to_path_buf(), None))
-}
-
-fn keep_apart(path: &Path, target: &Path, kept: &[&Path]) -> Result<(), Failure> {
-    let same = |kept: &&&Path| fs::canonicalize(kept).is_ok_and(|kept| kept == target);
-    match kept.iter().find(same) {
-        None => Ok(()),
-        Some(kept) => {
-            let why = format!("it is also read, as {}", kept.display());
-            Err(trouble("write", path, why))
-        }
-    }
-}
-
-fn unusable(metadata: &Metadata) -> &'static str {
+pub fn unusable(metadata: &Metadata) -> &'static str {
     if metadata.is_dir() {
         "it is a folder"
     } else {
         "it isn't a regular file"
     }
-}
-
-fn folder_of(target: &Path) -> &Path {
-    match target.parent() {
-        Some(folder) if !folder.as_os_str().is_empty() => folder,
-        _ => Path::new("."),
-    }
-}
-
-/// Creates a file under a name that nobody has, in the target's folder, since a rename can't leave the file system.
-fn create_beside(target: &Path) -> io::Result<(PathBuf, File)> {
-    let folder = folder_of(target);
-    for attempt in 0..100 {
-        let temporary = folder.join(format!(".{}-{attempt}.part", unique_name()));
-        let created = OpenOptions::new().write(true).create_new(true).open(&temporary);
-        match created {
-            Ok(file) => return Ok((temporary, file)),
-            Err(error) if error.kind() == ErrorKind::AlreadyExists => {}
-            Err(error) => return Err(error),
-        }
-    }
-    Err(ErrorKind::AlreadyExists.into())
-}
-
-/// A name that no other run of the tool is likely to choose.
-pub fn unique_name() -> String {
-    let now = SystemTime::now().duration_since(UNIX_EPOCH);
-    let nanoseconds = now.map_or(0, |time| time.as_nanos());
-    format!("navorzim-{}-{nanoseconds:x}", std::process::id())
-}
-
-/// Gives the new file the old one's owner, where we may, and its permissions.
-fn take_over(file: &File, old: &Metadata) -> io::Result<()> {
-    let new = file.metadata()?;
-    if (new.uid(), new.gid()) != (old.uid(), old.gid()) {
-        // Only root may give a file away; anybody else becomes the owner, as with any editor that writes this way.
-        let _ = fchown(file, Some(old.uid()), Some(old.gid()));
-    }
-    file.set_permissions(old.permissions())
 }

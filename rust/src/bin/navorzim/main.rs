@@ -10,6 +10,7 @@ mod failure;
 mod files;
 mod help;
 mod picture;
+mod replacement;
 mod sheets;
 mod stream;
 mod svg;

@@ -1,6 +1,7 @@
 //! Long files, worked on stripe by stripe: no more than one stripe is in memory at a time.
 use crate::failure::Failure;
-use crate::files::{Input, Replacement};
+use crate::files::{Input, Purpose};
+use crate::replacement::Replacement;
 use crate::sheets::Code;
 use navorzim::Refusal;
 use std::io::{stderr, IsTerminal, Write};
@@ -60,11 +61,12 @@ pub fn each(
     kept: &[&Path],
     mut work: impl FnMut(&mut [u8], &mut Replacement) -> Result<(), Failure>,
 ) -> Result<u64, Failure> {
-    let mut input = Input::open(input)?;
+    let purpose = if target.is_some() { Purpose::Read } else { Purpose::ReadAndReplace };
+    let mut input = Input::open(input, purpose)?;
     let count = pieces.count(&input)?;
     let mut output = match target {
         Some(target) => Replacement::begin(target, &[kept, &[input.path()]].concat())?,
-        None => Replacement::begin(input.path(), kept)?,
+        None => Replacement::in_place(&input, kept)?,
     };
     let mut piece = vec![0; pieces.length()];
     let mut progress = Progress::new(count);
@@ -73,8 +75,7 @@ pub fn each(
         input.read(&mut piece)?;
         work(&mut piece, &mut output)?;
     }
-    input.unchanged()?;
-    output.finish()?;
+    output.finish(Some(&input))?;
     Ok(count)
 }
 

@@ -1,0 +1,201 @@
+//! Files that are written: the new version takes the old one's place whole or not at all.
+use crate::failure::Failure;
+use crate::files::{trouble, Held, Input, Purpose, Stamp, BUFFER};
+use std::fs::{self, File, Metadata, OpenOptions};
+use std::io::{self, BufWriter, ErrorKind, Write};
+use std::os::unix::fs::{fchown, MetadataExt};
+use std::path::{Path, PathBuf};
+use std::time::{SystemTime, UNIX_EPOCH};
+
+/// A new file beside the target that takes its place when it is complete. Until then the target is as it was, and if it is
+/// dropped before that, nothing is left behind.
+pub struct Replacement {
+    /// the target as the caller named it
+    named: PathBuf,
+    /// links followed, so that a link stays one
+    target: PathBuf,
+    /// what stands there now
+    old: Option<Held>,
+    /// none once it has taken the target's place
+    temporary: Option<PathBuf>,
+    writer: BufWriter<File>,
+}
+
+impl Replacement {
+    /// Begins a new version of the target, which must be none of `kept`.
+    pub fn begin(path: &Path, kept: &[&Path]) -> Result<Replacement, Failure> {
+        match fs::metadata(path) {
+            Ok(_) => {
+                keep_apart(path, kept)?;
+                Replacement::of(Held::open(path, Purpose::Replace)?)
+            }
+            Err(error) if error.kind() == ErrorKind::NotFound => {
+                new_target(path)?;
+                Replacement::at(path, path.to_path_buf(), None)
+            }
+            Err(error) => Err(trouble("write", path, error)),
+        }
+    }
+
+    /// Begins a new version of an input, which must be none of `kept`.
+    pub fn in_place(input: &Input, kept: &[&Path]) -> Result<Replacement, Failure> {
+        keep_apart(input.path(), kept)?;
+        Replacement::of(input.held().again()?)
+    }
+
+    fn of(old: Held) -> Result<Replacement, Failure> {
+        let named = old.path.clone();
+        let target = fs::canonicalize(&named).map_err(|error| trouble("write", &named, error))?;
+        Replacement::at(&named, target, Some(old))
+    }
+
+    fn at(named: &Path, target: PathBuf, old: Option<Held>) -> Result<Replacement, Failure> {
+        let created = create_beside(&target);
+        let (temporary, file) = created.map_err(|error| trouble("write", named, error))?;
+        let writer = BufWriter::with_capacity(BUFFER, file);
+        let replacement = Replacement { named: named.to_path_buf(), target, old, temporary: Some(temporary), writer };
+        if let Some(old) = &replacement.old {
+            // Before the first byte: what was kept from others' eyes stays so.
+            let taken = old.file.metadata().and_then(|old| take_over(replacement.writer.get_ref(), &old));
+            taken.map_err(|error| trouble("write", named, error))?;
+        }
+        Ok(replacement)
+    }
+
+    /// Adds bytes.
+    pub fn write(&mut self, bytes: &[u8]) -> Result<(), Failure> {
+        let written = self.writer.write_all(bytes);
+        written.map_err(|error| self.trouble(error))
+    }
+
+    /// Brings all bytes to the disk, and then the new file to its place, unless somebody else wrote there or in the input
+    /// meanwhile: the comparison is the last that happens before the new file gets its name.
+    pub fn finish(mut self, input: Option<&Input>) -> Result<(), Failure> {
+        let complete = self.writer.flush().and_then(|()| self.writer.get_ref().sync_all());
+        complete.map_err(|error| self.trouble(error))?;
+        if let Some(input) = input {
+            input.held().unchanged()?;
+        }
+        match &self.old {
+            Some(old) => old.unchanged()?,
+            None => {}
+        }
+        self.place().map_err(|error| self.trouble(error))?;
+        // The new name is in the folder, so the folder too has to reach the disk; some file systems can't be asked for that.
+        if let Ok(folder) = File::open(folder_of(&self.target)) {
+            let _ = folder.sync_all();
+        }
+        Ok(())
+    }
+
+    fn place(&mut self) -> io::Result<()> {
+        let Some(temporary) = &self.temporary else { return Ok(()) };
+        match &self.old {
+            // A link to the target may lead elsewhere by now.
+            Some(old) if Stamp::of(&fs::symlink_metadata(&self.target)?) != Stamp::of(&old.file.metadata()?) => {
+                return Err(ErrorKind::StaleNetworkFileHandle.into());
+            }
+            Some(_) => fs::rename(temporary, &self.target)?,
+            None => name_new(temporary, &self.target)?,
+        }
+        self.temporary = None;
+        Ok(())
+    }
+
+    fn trouble(&self, error: io::Error) -> Failure {
+        match error.kind() {
+            ErrorKind::AlreadyExists => trouble("write", &self.named, "somebody else made it meanwhile"),
+            ErrorKind::StaleNetworkFileHandle => trouble("write", &self.named, "the link leads elsewhere by now"),
+            _ => trouble("write", &self.named, error),
+        }
+    }
+}
+
+impl Drop for Replacement {
+    fn drop(&mut self) {
+        if let Some(temporary) = &self.temporary {
+            let _ = fs::remove_file(temporary);
+        }
+    }
+}
+
+/// Gives the file a name that nobody has: a rename would replace what somebody else put there meanwhile, a further link doesn't.
+fn name_new(temporary: &Path, target: &Path) -> io::Result<()> {
+    match fs::hard_link(temporary, target) {
+        Ok(()) => fs::remove_file(temporary),
+        Err(error) if error.kind() == ErrorKind::AlreadyExists => Err(error),
+        // A file system without links.
+        Err(_) if fs::symlink_metadata(target).is_ok() => Err(ErrorKind::AlreadyExists.into()),
+        Err(_) => fs::rename(temporary, target),
+    }
+}
+
+/// Writes a small file whole.
+pub fn replace(path: &Path, kept: &[&Path], bytes: &[u8]) -> Result<(), Failure> {
+    let mut replacement = Replacement::begin(path, kept)?;
+    replacement.write(bytes)?;
+    replacement.finish(None)
+}
+
+fn new_target(path: &Path) -> Result<(), Failure> {
+    if fs::symlink_metadata(path).is_ok() {
+        return Err(trouble("write", path, "it is a link to nothing"));
+    }
+    // `folder/` has a file name for Rust, but a file can't have that name.
+    let ends_open = path.as_os_str().as_encoded_bytes().ends_with(b"/");
+    if path.file_name().is_none() || ends_open {
+        return Err(trouble("write", path, "it is no name for a file"));
+    }
+    Ok(())
+}
+
+fn keep_apart(path: &Path, kept: &[&Path]) -> Result<(), Failure> {
+    let target = fs::canonicalize(path).map_err(|error| trouble("write", path, error))?;
+    let same = |kept: &&&Path| fs::canonicalize(kept).is_ok_and(|kept| kept == target);
+    match kept.iter().find(same) {
+        None => Ok(()),
+        Some(kept) => {
+            let why = format!("it is also read, as {}", kept.display());
+            Err(trouble("write", path, why))
+        }
+    }
+}
+
+fn folder_of(target: &Path) -> &Path {
+    match target.parent() {
+        Some(folder) if !folder.as_os_str().is_empty() => folder,
+        _ => Path::new("."),
+    }
+}
+
+/// Creates a file under a name that nobody has, in the target's folder, since a rename can't leave the file system.
+fn create_beside(target: &Path) -> io::Result<(PathBuf, File)> {
+    let folder = folder_of(target);
+    for attempt in 0..100 {
+        let temporary = folder.join(format!(".{}-{attempt}.part", unique_name()));
+        let created = OpenOptions::new().write(true).create_new(true).open(&temporary);
+        match created {
+            Ok(file) => return Ok((temporary, file)),
+            Err(error) if error.kind() == ErrorKind::AlreadyExists => {}
+            Err(error) => return Err(error),
+        }
+    }
+    Err(ErrorKind::AlreadyExists.into())
+}
+
+/// A name that no other run of the tool is likely to choose.
+pub fn unique_name() -> String {
+    let now = SystemTime::now().duration_since(UNIX_EPOCH);
+    let nanoseconds = now.map_or(0, |time| time.as_nanos());
+    format!("navorzim-{}-{nanoseconds:x}", std::process::id())
+}
+
+/// Gives the new file the old one's owner, where we may, and its permissions.
+fn take_over(file: &File, old: &Metadata) -> io::Result<()> {
+    let new = file.metadata()?;
+    if (new.uid(), new.gid()) != (old.uid(), old.gid()) {
+        // Only root may give a file away; anybody else becomes the owner, as with any editor that writes this way.
+        let _ = fchown(file, Some(old.uid()), Some(old.gid()));
+    }
+    file.set_permissions(old.permissions())
+}
