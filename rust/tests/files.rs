@@ -2,11 +2,14 @@
 mod folder;
 
 use folder::{Folder, Ran, P1, TOOL};
-use std::fs::{self, File};
-use std::os::unix::fs::symlink;
+use std::fs::{self, File, Permissions};
+use std::os::unix::fs::{chown, symlink, MetadataExt, PermissionsExt};
+use std::os::unix::process::CommandExt;
 use std::path::PathBuf;
 use std::process::Command;
+use std::sync::atomic::{AtomicBool, Ordering};
 use std::sync::OnceLock;
+use std::thread;
 
 /// The stripe P1 with its first disk ruined, so many times.
 fn ruined(count: usize) -> Vec<u8> {
@@ -138,4 +141,190 @@ fn locked_files_are_left() {
             false => drop(folder.done(line)),
         }
     }
+}
+
+/// Mode, owner and group.
+fn rights(folder: &Folder, name: &str) -> (u32, u32, u32) {
+    let found = fs::metadata(folder.0.join(name)).expect("there");
+    (found.mode() & 0o7777, found.uid(), found.gid())
+}
+
+fn set_rights(folder: &Folder, name: &str, (mode, owner, group): (u32, u32, u32)) {
+    let path = folder.0.join(name);
+    chown(&path, Some(owner), Some(group)).expect("given away");
+    fs::set_permissions(&path, Permissions::from_mode(mode)).expect("set");
+}
+
+const NOBODY: u32 = 65_534;
+
+/// Whether files can be given to others here; says so if not.
+fn is_root(folder: &Folder) -> bool {
+    let root = fs::metadata(&folder.0).expect("there").uid() == 0;
+    if !root {
+        println!("not tried: only root can give files to others");
+    }
+    root
+}
+
+/// Runs a line of the tool as somebody who has no rights but those of others.
+fn run_as_nobody(folder: &Folder, line: &str) -> Ran {
+    let mut tool = Command::new(TOOL);
+    let tool = tool.args(line.split_whitespace()).current_dir(&folder.0);
+    Ran::of(tool.uid(NOBODY).gid(NOBODY))
+}
+
+/// Runs lines of Python in the folder: extended attributes are out of the standard library's reach.
+fn python(folder: &Folder, lines: &str) -> Option<String> {
+    let output = Command::new("python3").args(["-c", lines]).current_dir(&folder.0).output().ok()?;
+    match output.status.success() {
+        true => String::from_utf8(output.stdout).ok(),
+        false => {
+            println!("not tried: {}", String::from_utf8_lossy(&output.stderr));
+            None
+        }
+    }
+}
+
+#[test]
+fn temporary_files_are_seen_by_nobody_else() {
+    let folder = Folder::square();
+    // More than any buffer of the tool holds, so that the file grows in steps.
+    let data = vec![7; 4 << 18];
+    folder.put("data", &data);
+    let stop = AtomicBool::new(false);
+    let seen = thread::scope(|scope| {
+        let spy = scope.spawn(|| {
+            let mut seen = 0;
+            while !stop.load(Ordering::Relaxed) {
+                let entries = fs::read_dir(&folder.0).expect("a folder").flatten();
+                for path in entries.map(|entry| entry.path()).filter(|path| path.extension().is_some()) {
+                    // Through one open file, since the name may be gone or mean another one by the next look.
+                    let Ok(file) = File::open(path) else { continue };
+                    let Ok(before) = file.metadata() else { continue };
+                    let length = before.len();
+                    // An empty file shows nothing, and `out` is to be seen by all once it is complete.
+                    assert!(
+                        length == 0 || length == 2 * data.len() as u64 || before.mode() & 0o077 == 0,
+                        "{length} {:o}",
+                        before.mode()
+                    );
+                    seen += 1;
+                }
+            }
+            seen
+        });
+        for round in 0..20 {
+            folder.done(&format!("encode code --symbol {} data -o out", 1024 << (round % 3)));
+            fs::remove_file(folder.0.join("out")).expect("written");
+            // What only its owner may see is never shown, however much of it is there.
+            folder.put("secret", b"");
+            fs::set_permissions(folder.0.join("secret"), Permissions::from_mode(0o600)).expect("set");
+            folder.done("encode code --symbol 1024 data -o secret");
+            assert_eq!(rights(&folder, "secret").0, 0o600);
+        }
+        stop.store(true, Ordering::Relaxed);
+        spy.join().expect("no temporary file was shown")
+    });
+    println!("{seen} looks at temporary files");
+}
+
+#[test]
+fn a_new_file_has_the_rights_that_any_program_gives_it() {
+    let folder = Folder::square();
+    for mask in ["022", "077", "002", "000"] {
+        let line = format!("umask {mask}; rm -f out touched; touch touched; '{TOOL}' plan code 0 -o out");
+        let made = Command::new("sh").args(["-c", &line]).current_dir(&folder.0).output().expect("sh runs");
+        assert!(made.status.success(), "{made:?}");
+        assert_eq!(rights(&folder, "out"), rights(&folder, "touched"), "{mask}");
+    }
+}
+
+#[test]
+fn owner_and_group_stay_or_lose_their_rights() {
+    let folder = Folder::square();
+    if !is_root(&folder) {
+        return;
+    }
+    for kept in [(0o640, 1234, 2345), (0o604, 1234, 0), (0o4750, NOBODY, 2345), (0o666, 0, 2345)] {
+        set_rights(&folder, "stripes", kept);
+        folder.done("rebuild code 0 plan --symbol 1 stripes --in-place");
+        assert_eq!(rights(&folder, "stripes"), kept);
+    }
+    fs::set_permissions(&folder.0, Permissions::from_mode(0o777)).expect("set");
+    for (before, after) in [
+        // A group that can't be set loses its bits, and its members get no more as others.
+        ((0o664, NOBODY, 2345), 0o604),
+        ((0o606, NOBODY, 2345), 0o600),
+        ((0o6775, NOBODY, 2345), 0o705),
+        ((0o664, NOBODY, NOBODY), 0o664),
+        // An owner who can't be kept gets no more as one of the others.
+        ((0o666, 0, 0), 0o606),
+        ((0o466, 0, 0), 0o404),
+    ] {
+        set_rights(&folder, "stripes", before);
+        let ran = run_as_nobody(&folder, "rebuild code 0 plan --symbol 1 stripes --in-place");
+        assert_eq!(ran.status, 0, "{ran:?}");
+        assert_eq!(rights(&folder, "stripes"), (after, NOBODY, NOBODY), "{before:?}");
+    }
+}
+
+/// An access control list: rw for the owner, r for nobody by name, nothing for the group, and so much for the mask and the others.
+fn access_list(mask: u8, others: u8) -> String {
+    let entries = [(1, 6, !0), (2, 4, NOBODY), (4, 0, !0), (0x10, mask, !0), (0x20, others, !0)];
+    let entries = entries.iter().flat_map(|&(kind, bits, whose)| {
+        let whose: u32 = whose;
+        [vec![kind, 0, bits, 0], whose.to_le_bytes().to_vec()].concat()
+    });
+    let bytes: Vec<String> = [2, 0, 0, 0].into_iter().chain(entries).map(|byte: u8| byte.to_string()).collect();
+    format!("bytes([{}])", bytes.join(","))
+}
+
+const READ_ALL: &str = "import os\nprint([(n, os.getxattr('stripes', n)) for n in sorted(os.listxattr('stripes'))])";
+
+#[test]
+fn attributes_and_access_lists_stay_or_are_narrowed() {
+    let folder = Folder::square();
+    let set = format!(
+        "import os\nos.setxattr('stripes', 'user.origin', b'register \\x00 7')\n\
+         os.setxattr('stripes', 'user.empty', b'')\nos.setxattr('stripes', 'system.posix_acl_access', {})",
+        access_list(4, 0)
+    );
+    if python(&folder, &set).is_none() {
+        return;
+    }
+    let (before, mode) = (python(&folder, READ_ALL).expect("read"), rights(&folder, "stripes"));
+    assert!(before.contains("posix_acl_access") && before.contains("user.empty"), "{before}");
+    folder.done("rebuild code 0 plan --symbol 1 stripes --in-place");
+    assert_eq!(python(&folder, READ_ALL).expect("read"), before);
+    assert_eq!(rights(&folder, "stripes"), mode);
+    if !is_root(&folder) {
+        return;
+    }
+    // Whoever can't keep the group can't keep the list either, and then nobody but the owner sees the file.
+    fs::set_permissions(&folder.0, Permissions::from_mode(0o777)).expect("set");
+    set_rights(&folder, "stripes", (0o644, NOBODY, 2345));
+    let ran = run_as_nobody(&folder, "rebuild code 0 plan --symbol 1 stripes --in-place");
+    assert_eq!(ran.status, 0, "{ran:?}");
+    assert_eq!(rights(&folder, "stripes"), (0o600, NOBODY, NOBODY));
+    let after = python(&folder, READ_ALL).expect("read");
+    assert!(!after.contains("posix_acl_access") && after.contains("user.origin"), "{after}");
+}
+
+#[test]
+fn a_folders_own_access_list_widens_nothing() {
+    let folder = Folder::square();
+    let set = format!("import os\nos.setxattr('.', 'system.posix_acl_default', {})", access_list(6, 0));
+    fs::set_permissions(folder.0.join("stripes"), Permissions::from_mode(0o640)).expect("set");
+    if python(&folder, &set).is_none() {
+        return;
+    }
+    folder.done("rebuild code 0 plan --symbol 1 stripes --in-place");
+    assert_eq!(python(&folder, READ_ALL).expect("read"), "[]\n");
+    assert_eq!(rights(&folder, "stripes").0, 0o640);
+    // A new file gets what any new file gets here.
+    folder.put("touched", b"");
+    folder.done("strip code 0 --symbol 1 stripes -o out");
+    assert_eq!(rights(&folder, "out"), rights(&folder, "touched"));
+    let list = |name: &str| READ_ALL.replace("'stripes'", &format!("'{name}'"));
+    assert_eq!(python(&folder, &list("out")), python(&folder, &list("touched")));
 }

@@ -1,7 +1,7 @@
 //! `navorzim`: code sheets, plans and stripes in files, over the proved library.
 //!
 //! Exit status: 0 done, 1 refused or a disk that can't be rebuilt, 2 misuse or a file that can't be used.
-#![forbid(unsafe_code)]
+#![deny(unsafe_code)]
 
 mod arguments;
 mod commands;
@@ -11,9 +11,11 @@ mod files;
 mod help;
 mod picture;
 mod replacement;
+mod rights;
 mod sheets;
 mod stream;
 mod svg;
+mod system;
 mod text;
 mod wanted;
 

@@ -1,9 +1,10 @@
 //! Files that are written: the new version takes the old one's place whole or not at all.
 use crate::failure::Failure;
 use crate::files::{trouble, Held, Input, Purpose, Stamp, BUFFER};
-use std::fs::{self, File, Metadata, OpenOptions};
+use crate::rights;
+use std::fs::{self, File, OpenOptions};
 use std::io::{self, BufWriter, ErrorKind, Write};
-use std::os::unix::fs::{fchown, MetadataExt};
+use std::os::unix::fs::OpenOptionsExt;
 use std::path::{Path, PathBuf};
 use std::time::{SystemTime, UNIX_EPOCH};
 
@@ -16,6 +17,8 @@ pub struct Replacement {
     target: PathBuf,
     /// what stands there now
     old: Option<Held>,
+    /// the file whose owner, group and permissions the new one gets
+    model: File,
     /// none once it has taken the target's place
     temporary: Option<PathBuf>,
     writer: BufWriter<File>,
@@ -50,16 +53,19 @@ impl Replacement {
     }
 
     fn at(named: &Path, target: PathBuf, old: Option<Held>) -> Result<Replacement, Failure> {
-        let created = create_beside(&target);
-        let (temporary, file) = created.map_err(|error| trouble("write", named, error))?;
+        let create = |mode| create_beside(&target, mode).map_err(|error| trouble("write", named, error));
+        let (model, old) = match old {
+            Some(old) => (old.again()?.file, Some(old)),
+            // An empty file shows what the folder and the user's mask make of a new one.
+            None => {
+                let (path, model) = create(0o666)?;
+                fs::remove_file(path).map_err(|error| trouble("write", named, error))?;
+                (model, None)
+            }
+        };
+        let (temporary, file) = create(0o600)?;
         let writer = BufWriter::with_capacity(BUFFER, file);
-        let replacement = Replacement { named: named.to_path_buf(), target, old, temporary: Some(temporary), writer };
-        if let Some(old) = &replacement.old {
-            // Before the first byte: what was kept from others' eyes stays so.
-            let taken = old.file.metadata().and_then(|old| take_over(replacement.writer.get_ref(), &old));
-            taken.map_err(|error| trouble("write", named, error))?;
-        }
-        Ok(replacement)
+        Ok(Replacement { named: named.to_path_buf(), target, old, model, temporary: Some(temporary), writer })
     }
 
     /// Adds bytes.
@@ -71,14 +77,12 @@ impl Replacement {
     /// Brings all bytes to the disk, and then the new file to its place, unless somebody else wrote there or in the input
     /// meanwhile: the comparison is the last that happens before the new file gets its name.
     pub fn finish(mut self, input: Option<&Input>) -> Result<(), Failure> {
-        let complete = self.writer.flush().and_then(|()| self.writer.get_ref().sync_all());
-        complete.map_err(|error| self.trouble(error))?;
+        self.complete().map_err(|error| self.trouble(error))?;
         if let Some(input) = input {
             input.held().unchanged()?;
         }
-        match &self.old {
-            Some(old) => old.unchanged()?,
-            None => {}
+        if let Some(old) = &self.old {
+            old.unchanged()?;
         }
         self.place().map_err(|error| self.trouble(error))?;
         // The new name is in the folder, so the folder too has to reach the disk; some file systems can't be asked for that.
@@ -86,6 +90,13 @@ impl Replacement {
             let _ = folder.sync_all();
         }
         Ok(())
+    }
+
+    /// Until all is written only the owner sees it.
+    fn complete(&mut self) -> io::Result<()> {
+        self.writer.flush()?;
+        rights::take_over(self.writer.get_ref(), &self.model)?;
+        self.writer.get_ref().sync_all()
     }
 
     fn place(&mut self) -> io::Result<()> {
@@ -169,11 +180,11 @@ fn folder_of(target: &Path) -> &Path {
 }
 
 /// Creates a file under a name that nobody has, in the target's folder, since a rename can't leave the file system.
-fn create_beside(target: &Path) -> io::Result<(PathBuf, File)> {
+fn create_beside(target: &Path, mode: u32) -> io::Result<(PathBuf, File)> {
     let folder = folder_of(target);
     for attempt in 0..100 {
         let temporary = folder.join(format!(".{}-{attempt}.part", unique_name()));
-        let created = OpenOptions::new().write(true).create_new(true).open(&temporary);
+        let created = OpenOptions::new().write(true).create_new(true).mode(mode).open(&temporary);
         match created {
             Ok(file) => return Ok((temporary, file)),
             Err(error) if error.kind() == ErrorKind::AlreadyExists => {}
@@ -188,14 +199,4 @@ pub fn unique_name() -> String {
     let now = SystemTime::now().duration_since(UNIX_EPOCH);
     let nanoseconds = now.map_or(0, |time| time.as_nanos());
     format!("navorzim-{}-{nanoseconds:x}", std::process::id())
-}
-
-/// Gives the new file the old one's owner, where we may, and its permissions.
-fn take_over(file: &File, old: &Metadata) -> io::Result<()> {
-    let new = file.metadata()?;
-    if (new.uid(), new.gid()) != (old.uid(), old.gid()) {
-        // Only root may give a file away; anybody else becomes the owner, as with any editor that writes this way.
-        let _ = fchown(file, Some(old.uid()), Some(old.gid()));
-    }
-    file.set_permissions(old.permissions())
 }

@@ -1,0 +1,72 @@
+//! What only the C library offers, which the standard library links anyway. This is the tool's only `unsafe` code.
+//!
+//! Why the calls are sound: a descriptor is lent by an open `File` and stays open for the whole call; a name is a `CStr`, which
+//! ends in a zero byte; a buffer goes over as its own pointer and length, is borrowed for the call, and none of these calls
+//! keeps a pointer. The types are those of the C library on Linux.
+#![allow(unsafe_code)]
+
+use std::ffi::{c_char, c_int, c_void, CStr, CString};
+use std::fs::File;
+use std::io;
+use std::os::fd::AsRawFd;
+
+extern "C" {
+    fn flistxattr(fd: c_int, list: *mut c_char, size: usize) -> isize;
+    fn fgetxattr(fd: c_int, name: *const c_char, value: *mut c_void, size: usize) -> isize;
+    fn fsetxattr(fd: c_int, name: *const c_char, value: *const c_void, size: usize, flags: c_int) -> c_int;
+    fn fremovexattr(fd: c_int, name: *const c_char) -> c_int;
+}
+
+/// No system takes more for one value or one list of names: Linux' own limit.
+const LARGEST: usize = 1 << 16;
+
+/// The names of a file's extended attributes; none where the file system has no such thing.
+pub fn attribute_names(file: &File) -> io::Result<Vec<CString>> {
+    let mut list = vec![0; LARGEST];
+    // Sound: at most `list.len()` bytes are written to `list`.
+    let filled = unsafe { flistxattr(file.as_raw_fd(), list.as_mut_ptr().cast(), list.len()) };
+    let Ok(filled) = usize::try_from(filled) else { return absent_as(Vec::new()) };
+    list.truncate(filled);
+    Ok(list
+        .split_inclusive(|&byte| byte == 0)
+        .filter_map(|name| Some(CStr::from_bytes_with_nul(name).ok()?.to_owned()))
+        .collect())
+}
+
+/// The value of an extended attribute, if the file has it.
+pub fn attribute(file: &File, name: &CStr) -> io::Result<Option<Vec<u8>>> {
+    let mut value = vec![0; LARGEST];
+    // Sound: at most `value.len()` bytes are written to `value`.
+    let filled = unsafe { fgetxattr(file.as_raw_fd(), name.as_ptr(), value.as_mut_ptr().cast(), value.len()) };
+    let Ok(filled) = usize::try_from(filled) else { return absent_as(None) };
+    value.truncate(filled);
+    Ok(Some(value))
+}
+
+/// Sets an extended attribute.
+pub fn set_attribute(file: &File, name: &CStr, value: &[u8]) -> io::Result<()> {
+    // Sound: `value.len()` bytes are read from `value`. Flags 0: it may be there or not.
+    done(unsafe { fsetxattr(file.as_raw_fd(), name.as_ptr(), value.as_ptr().cast(), value.len(), 0) })
+}
+
+/// Removes an extended attribute; it is no error if there is none.
+pub fn remove_attribute(file: &File, name: &CStr) -> io::Result<()> {
+    // Sound: nothing but the descriptor and the name is handed over.
+    done(unsafe { fremovexattr(file.as_raw_fd(), name.as_ptr()) }).or_else(|_| absent_as(()))
+}
+
+fn done(answer: c_int) -> io::Result<()> {
+    match answer {
+        0 => Ok(()),
+        _ => Err(io::Error::last_os_error()),
+    }
+}
+
+/// The last error, unless it says that there is no such attribute (ENODATA) or no attributes at all (EOPNOTSUPP).
+fn absent_as<T>(absent: T) -> io::Result<T> {
+    let error = io::Error::last_os_error();
+    match error.raw_os_error() {
+        Some(61 | 95) => Ok(absent),
+        _ => Err(error),
+    }
+}
