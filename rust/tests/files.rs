@@ -328,3 +328,117 @@ fn a_folders_own_access_list_widens_nothing() {
     let list = |name: &str| READ_ALL.replace("'stripes'", &format!("'{name}'"));
     assert_eq!(python(&folder, &list("out")), python(&folder, &list("touched")));
 }
+
+#[test]
+fn what_a_user_may_not_write_is_not_replaced() {
+    let folder = Folder::square();
+    if !is_root(&folder) {
+        return;
+    }
+    // The folder belongs to the user, the files don't.
+    set_rights(&folder, ".", (0o755, NOBODY, NOBODY));
+    folder.put("out", b"as it was");
+    for (name, mode) in [("stripes", 0o644), ("out", 0o644), ("out", 0o664), ("out", 0o600)] {
+        set_rights(&folder, name, (mode, 0, 0));
+        for line in ["rebuild code 0 plan --symbol 1 stripes --in-place", "plan code 0 -o out"] {
+            if line.contains(name) {
+                let before = folder.contents();
+                let ran = run_as_nobody(&folder, line);
+                assert_eq!(ran.status, 2, "{name} {mode:o}: {ran:?}");
+                assert!(ran.err.contains(&format!("can't write {name}: Permission denied")), "{ran:?}");
+                assert_eq!(folder.contents(), before);
+            }
+        }
+    }
+    assert_eq!(run_as_nobody(&folder, "plan code 0 -o new").status, 0);
+}
+
+#[test]
+fn special_files_are_refused_by_what_they_are() {
+    let folder = Folder::square();
+    let made = Command::new("mkfifo").arg(folder.0.join("pipe")).status().expect("mkfifo runs");
+    assert!(made.success());
+    symlink("pipe", folder.0.join("link")).expect("a link");
+    symlink("/dev/stdout", folder.0.join("out")).expect("a link");
+    // Nobody writes to the pipe or reads from it: none of this may wait.
+    for line in [
+        "check pipe 0 plan",
+        "check code 0 pipe",
+        "check link 0 plan",
+        "encode code --symbol 1 pipe -o new",
+        "rebuild code 0 link --symbol 1 stripes --in-place",
+        "rebuild code 0 plan --symbol 1 pipe --in-place",
+        "show code --disk 0 --plan link",
+        "plan code 0 -o pipe",
+        "plan code 0 -o link",
+        // The test reads the tool's answers through a pipe.
+        "plan code 0 -o /dev/stdout",
+        "plan code 0 -o /dev/stderr",
+        "plan code 0 -o /dev/fd/1",
+        "plan code 0 -o /proc/self/fd/2",
+        "plan code 0 -o out",
+    ] {
+        let before = names(&folder);
+        let ran = folder.run(line);
+        assert_eq!(ran.status, 2, "{line}: {ran:?}");
+        let said = ["it is a pipe, not a regular file", "it is this run's standard"];
+        assert!(said.iter().any(|said| ran.err.contains(said)), "{line}: {ran:?}");
+        assert_eq!(names(&folder), before, "{line}");
+    }
+    for line in ["check /dev/zero 0 plan", "plan code 0 -o /dev/null", "show code --svg /dev/full"] {
+        let ran = folder.run(line);
+        assert_eq!(ran.status, 2, "{line}: {ran:?}");
+        assert!(ran.err.contains("it is a device, not a regular file"), "{line}: {ran:?}");
+    }
+}
+
+/// The names in the folder; a pipe among them can't be read.
+fn names(folder: &Folder) -> Vec<String> {
+    let entries = fs::read_dir(&folder.0).expect("a folder").flatten();
+    let mut names: Vec<String> =
+        entries.map(|entry| format!("{:?} {:?}", entry.file_name(), entry.file_type())).collect();
+    names.sort();
+    names
+}
+
+#[test]
+fn answers_that_go_to_a_file_do_not_lose_it() {
+    let folder = Folder::square();
+    for (line, stream) in [
+        ("plan code 0 -o /dev/stdout", "output"),
+        ("plan code 0 -o log", "output"),
+        ("plan code 0 -o /dev/fd/1", "output"),
+    ] {
+        folder.put("log", b"before\n");
+        let log = File::options().append(true).open(folder.0.join("log")).expect("opened");
+        let mut tool = Command::new(TOOL);
+        let tool = tool.args(line.split_whitespace()).current_dir(&folder.0).stdout(log);
+        let output = tool.output().expect("it runs");
+        let said = String::from_utf8_lossy(&output.stderr).to_string();
+        assert_eq!(output.status.code(), Some(2), "{said}");
+        assert!(said.contains(&format!("it is this run's standard {stream}")), "{said}");
+        assert_eq!(folder.get("log"), b"before\n");
+    }
+}
+
+#[test]
+fn hard_links_of_inputs_are_recognised() {
+    let folder = Folder::square();
+    for (name, line) in [
+        ("data", "encode code --symbol 1 data -o same"),
+        ("code", "encode code --symbol 1 data -o same"),
+        ("stripes", "strip code 0 --symbol 1 stripes -o same"),
+        ("stripes", "rebuild code 0 plan --symbol 1 stripes -o same"),
+        ("plan", "rebuild code 0 plan --symbol 1 stripes -o same"),
+        ("code", "plan code 0 -o same"),
+        ("plan", "show code --disk 0 --plan plan --svg same"),
+    ] {
+        let same = folder.0.join("same");
+        let _ = fs::remove_file(&same);
+        fs::hard_link(folder.0.join(name), &same).expect("a link");
+        let ran = folder.run(line);
+        assert_eq!(ran.status, 2, "{line}: {ran:?}");
+        assert!(ran.err.contains(&format!("it is also read, as {name}")), "{line}: {ran:?}");
+        assert_eq!(folder.get(name), folder.get("same"), "{line}");
+    }
+}

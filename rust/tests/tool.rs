@@ -807,16 +807,16 @@ fn files_that_cannot_be_used_are_named() {
     for (line, piece) in [
         ("check nowhere 0 plan", "can't read nowhere"),
         ("check code 0 nowhere", "can't read nowhere"),
-        ("check folder 0 plan", "can't read folder"),
+        ("check folder 0 plan", "can't read folder: it is a folder"),
         ("encode code --symbol 1 folder -o out", "it is a folder"),
         ("encode code --symbol 1 nowhere -o out", "can't read nowhere"),
-        ("encode code --symbol 1 socket -o out", "it isn't a regular file"),
+        ("encode code --symbol 1 socket -o out", "it is a socket, not a regular file"),
         ("encode code --symbol 1 data -o folder", "it is a folder"),
         ("encode code --symbol 1 data -o folder/", "it is a folder"),
         ("encode code --symbol 1 data -o new/", "no name for a file"),
         ("encode code --symbol 1 data -o nowhere/out", "can't write nowhere/out"),
         ("encode code --symbol 1 data -o dangling", "a link to nothing"),
-        ("plan code 0 -o socket", "it isn't a regular file"),
+        ("plan code 0 -o socket", "it is a socket, not a regular file"),
         ("demo --keep .", "it isn't empty"),
     ] {
         let said = folder.misused(line);

@@ -1,8 +1,9 @@
 //! Files that are read: sheets with a limit, stripes piece by piece, and how it is noticed that somebody else wrote one meanwhile.
 use crate::failure::Failure;
+use crate::system;
 use std::fs::{self, File, Metadata, OpenOptions, TryLockError};
 use std::io::{self, BufReader, ErrorKind, Read};
-use std::os::unix::fs::MetadataExt;
+use std::os::unix::fs::{FileTypeExt, MetadataExt, OpenOptionsExt};
 use std::path::{Path, PathBuf};
 
 pub const BUFFER: usize = 1 << 18;
@@ -14,13 +15,11 @@ pub fn trouble(verb: &str, path: &Path, why: impl std::fmt::Display) -> Failure 
 
 /// A sheet's bytes, but never more than one above the longest: the library refuses those by their length, whatever follows.
 pub fn read_sheet(path: &Path, longest: usize) -> Result<Vec<u8>, Failure> {
-    let read = || -> io::Result<Vec<u8>> {
-        let mut sheet = Vec::new();
-        let file = File::open(path)?;
-        file.take(longest as u64 + 1).read_to_end(&mut sheet)?;
-        Ok(sheet)
-    };
-    read().map_err(|error| trouble("read", path, error))
+    let file = open_regular(path, Purpose::Read)?;
+    let mut sheet = Vec::new();
+    let read = file.take(longest as u64 + 1).read_to_end(&mut sheet);
+    read.map_err(|error| trouble("read", path, error))?;
+    Ok(sheet)
 }
 
 /// Which file it is, how long, and when it was last touched.
@@ -74,20 +73,13 @@ pub struct Held {
 
 impl Held {
     pub fn open(path: &Path, purpose: Purpose) -> Result<Held, Failure> {
-        let fails = |error: io::Error| trouble(purpose.verb(), path, error);
-        // Before it is opened, since opening a pipe waits for a writer.
-        let metadata = fs::metadata(path).map_err(fails)?;
-        if !metadata.is_file() {
-            return Err(trouble(purpose.verb(), path, unusable(&metadata)));
-        }
-        if purpose != Purpose::Read && metadata.permissions().readonly() {
+        let file = open_regular(path, purpose)?;
+        lock(&file, purpose).map_err(|why| trouble(purpose.verb(), path, why))?;
+        let found = file.metadata().map_err(|error| trouble(purpose.verb(), path, error))?;
+        if purpose != Purpose::Read && found.permissions().readonly() {
             return Err(trouble("write", path, "it is write-protected"));
         }
-        let mut options = OpenOptions::new();
-        let options = options.read(purpose != Purpose::Replace).write(purpose != Purpose::Read);
-        let file = options.open(path).map_err(fails)?;
-        lock(&file, purpose).map_err(|why| trouble(purpose.verb(), path, why))?;
-        let found = Stamp::of(&file.metadata().map_err(fails)?);
+        let found = Stamp::of(&found);
         Ok(Held { path: path.to_path_buf(), file, found, purpose })
     }
 
@@ -116,6 +108,23 @@ impl Held {
         let file = self.file.try_clone().map_err(|error| trouble(self.purpose.verb(), &self.path, error))?;
         Ok(Held { path: self.path.clone(), file, found: self.found.clone(), purpose: self.purpose })
     }
+}
+
+/// Opens a file, links followed, if it is a regular one.
+fn open_regular(path: &Path, purpose: Purpose) -> Result<File, Failure> {
+    let fails = |error: io::Error| trouble(purpose.verb(), path, error);
+    let regular = |found: &Metadata| match kind(found) {
+        None => Ok(()),
+        Some(kind) => Err(trouble(purpose.verb(), path, format!("it is {kind}"))),
+    };
+    // Before it is opened, since to open a device may move it, and after, since it may have been exchanged; nor is a pipe's
+    // other end waited for.
+    regular(&fs::metadata(path).map_err(fails)?)?;
+    let mut options = OpenOptions::new();
+    let options = options.read(purpose != Purpose::Replace).write(purpose != Purpose::Read);
+    let file = options.custom_flags(system::WITHOUT_WAITING).open(path).map_err(fails)?;
+    regular(&file.metadata().map_err(fails)?)?;
+    Ok(file)
 }
 
 /// Readers share a lock; whoever replaces the file holds it alone. Nobody is waited for.
@@ -169,10 +178,18 @@ impl Input {
     }
 }
 
-pub fn unusable(metadata: &Metadata) -> &'static str {
-    if metadata.is_dir() {
-        "it is a folder"
+/// What is no regular file, by what it is.
+fn kind(found: &Metadata) -> Option<&'static str> {
+    let kind = found.file_type();
+    if kind.is_file() {
+        None
+    } else if kind.is_dir() {
+        Some("a folder")
+    } else if kind.is_fifo() {
+        Some("a pipe, not a regular file")
+    } else if kind.is_socket() {
+        Some("a socket, not a regular file")
     } else {
-        "it isn't a regular file"
+        Some("a device, not a regular file")
     }
 }

@@ -2,9 +2,10 @@
 use crate::failure::Failure;
 use crate::files::{trouble, Held, Input, Purpose, Stamp, BUFFER};
 use crate::rights;
-use std::fs::{self, File, OpenOptions};
+use std::fs::{self, File, Metadata, OpenOptions};
 use std::io::{self, BufWriter, ErrorKind, Write};
-use std::os::unix::fs::OpenOptionsExt;
+use std::os::fd::AsFd;
+use std::os::unix::fs::{MetadataExt, OpenOptionsExt};
 use std::path::{Path, PathBuf};
 use std::time::{SystemTime, UNIX_EPOCH};
 
@@ -160,16 +161,22 @@ fn new_target(path: &Path) -> Result<(), Failure> {
     Ok(())
 }
 
+/// Refuses a target that is one of `kept` or takes this run's own answers, under whatever name: links of both kinds are seen through.
 fn keep_apart(path: &Path, kept: &[&Path]) -> Result<(), Failure> {
-    let target = fs::canonicalize(path).map_err(|error| trouble("write", path, error))?;
-    let same = |kept: &&&Path| fs::canonicalize(kept).is_ok_and(|kept| kept == target);
-    match kept.iter().find(same) {
-        None => Ok(()),
-        Some(kept) => {
-            let why = format!("it is also read, as {}", kept.display());
-            Err(trouble("write", path, why))
+    let identity = |found: &Metadata| (found.dev(), found.ino());
+    let target = identity(&fs::metadata(path).map_err(|error| trouble("write", path, error))?);
+    let is_target = |found: io::Result<Metadata>| found.is_ok_and(|found| identity(&found) == target);
+    if let Some(kept) = kept.iter().find(|kept| is_target(fs::metadata(kept))) {
+        return Err(trouble("write", path, format!("it is also read, as {}", kept.display())));
+    }
+    let streams =
+        [("output", io::stdout().as_fd().try_clone_to_owned()), ("error", io::stderr().as_fd().try_clone_to_owned())];
+    for (name, stream) in streams {
+        if is_target(stream.and_then(|stream| File::from(stream).metadata())) {
+            return Err(trouble("write", path, format!("it is this run's standard {name}")));
         }
     }
+    Ok(())
 }
 
 fn folder_of(target: &Path) -> &Path {

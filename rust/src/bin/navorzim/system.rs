@@ -17,6 +17,9 @@ extern "C" {
     fn fremovexattr(fd: c_int, name: *const c_char) -> c_int;
 }
 
+/// For opening: a pipe's other end isn't waited for (O_NONBLOCK). Regular files don't know the difference.
+pub const WITHOUT_WAITING: c_int = 0o4000;
+
 /// No system takes more for one value or one list of names: Linux' own limit.
 const LARGEST: usize = 1 << 16;
 
