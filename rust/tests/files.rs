@@ -1,15 +1,18 @@
 //! What the tool does to files that it was not asked to change, that others write meanwhile, or that others may not see.
 mod folder;
+mod model;
 
 use folder::{Folder, Ran, P1, TOOL};
+use model::random::Random;
 use std::fs::{self, File, Permissions};
 use std::os::unix::fs::{chown, symlink, MetadataExt, PermissionsExt};
-use std::os::unix::process::CommandExt;
+use std::os::unix::process::{CommandExt, ExitStatusExt};
 use std::path::PathBuf;
-use std::process::Command;
+use std::process::{Child, Command, Stdio};
 use std::sync::atomic::{AtomicBool, Ordering};
 use std::sync::OnceLock;
 use std::thread;
+use std::time::{Duration, Instant};
 
 /// The stripe P1 with its first disk ruined, so many times.
 fn ruined(count: usize) -> Vec<u8> {
@@ -440,5 +443,197 @@ fn hard_links_of_inputs_are_recognised() {
         assert_eq!(ran.status, 2, "{line}: {ran:?}");
         assert!(ran.err.contains(&format!("it is also read, as {name}")), "{line}: {ran:?}");
         assert_eq!(folder.get(name), folder.get("same"), "{line}");
+    }
+}
+
+/// Some megabytes of stripes, with disk 0 ruined, and whole.
+fn long_work() -> (Vec<u8>, Vec<u8>) {
+    let stripe = |bytes: &[u8]| bytes.iter().flat_map(|&byte| [byte; 1024]).collect::<Vec<u8>>();
+    (stripe(&ruined(1)).repeat(400), stripe(&P1).repeat(400))
+}
+
+const LONG: &str = "rebuild code 0 plan --symbol 1024 stripes --in-place";
+
+fn start(folder: &Folder, line: &str) -> Child {
+    let mut tool = Command::new(TOOL);
+    let tool = tool.args(line.split_whitespace()).current_dir(&folder.0).env("TMPDIR", &folder.0);
+    tool.stdout(Stdio::null()).stderr(Stdio::null()).spawn().expect("it runs")
+}
+
+fn send(signal: &str, child: &Child) {
+    let sent = Command::new("kill").args([signal, &child.id().to_string()]).stderr(Stdio::null()).status();
+    sent.expect("kill runs");
+}
+
+/// Some moment of a run that takes so long.
+fn a_moment(random: &mut Random, whole: Duration) -> Duration {
+    whole.mul_f64(random.below(1100) as f64 / 1000.0)
+}
+
+/// How long the work takes when nobody disturbs it.
+fn undisturbed(folder: &Folder, stripes: &[u8]) -> Duration {
+    folder.put("stripes", stripes);
+    let began = Instant::now();
+    folder.done(LONG);
+    began.elapsed()
+}
+
+#[test]
+fn two_hundred_kills_leave_no_half_file() {
+    let folder = Folder::square();
+    let (old, new) = long_work();
+    let whole = undisturbed(&folder, &old);
+    let (mut random, mut replaced, mut left) = (Random::new(200), 0, 0);
+    for _ in 0..200 {
+        folder.put("stripes", &old);
+        let mut child = start(&folder, LONG);
+        thread::sleep(a_moment(&mut random, whole));
+        child.kill().expect("killed");
+        child.wait().expect("it ends");
+        let found = folder.get("stripes");
+        assert!(found == old || found == new, "a half file of {} bytes", found.len());
+        replaced += usize::from(found == new);
+        left += folder.temporaries();
+        assert!(folder.temporaries() <= 1, "the next run removes what the last one left");
+    }
+    folder.put("stripes", &old);
+    folder.done(LONG);
+    assert_eq!(folder.temporaries(), 0);
+    println!("200 kills: {replaced} after the rename, {left} left a file for the next run to remove");
+}
+
+#[test]
+fn signals_leave_nothing_behind() {
+    let folder = Folder::square();
+    let (old, new) = long_work();
+    let whole = undisturbed(&folder, &old);
+    let (mut random, mut ended) = (Random::new(15), 0);
+    for round in 0..150 {
+        let (signal, number) = [("-TERM", 15), ("-INT", 2), ("-HUP", 1)][round % 3];
+        folder.put("stripes", &old);
+        let mut child = start(&folder, LONG);
+        thread::sleep(a_moment(&mut random, whole));
+        send(signal, &child);
+        let status = child.wait().expect("it ends");
+        assert!(status.success() || status.signal() == Some(number), "{signal}: {status}");
+        ended += usize::from(!status.success());
+        assert_eq!(folder.temporaries(), 0, "{signal}");
+        let found = folder.get("stripes");
+        assert!(found == old || found == new, "{signal}: a half file of {} bytes", found.len());
+        assert!(!status.success() || found == new, "{signal}");
+    }
+    assert!(ended > 10, "{ended} of 150 signals came in time");
+    println!("150 signals: {ended} came in time");
+}
+
+#[test]
+fn the_demonstration_leaves_nothing_behind_when_it_is_ended() {
+    let folder = Folder::new();
+    let began = Instant::now();
+    folder.done("demo");
+    let whole = began.elapsed();
+    let mut random = Random::new(3);
+    for _ in 0..30 {
+        let mut child = start(&folder, "demo");
+        thread::sleep(a_moment(&mut random, whole));
+        send("-TERM", &child);
+        child.wait().expect("it ends");
+        assert_eq!(names(&folder), Vec::<String>::new());
+    }
+}
+
+#[test]
+fn signals_that_are_ignored_stay_so() {
+    let folder = Folder::square();
+    let (old, new) = long_work();
+    folder.put("stripes", &old);
+    let mut shell = Command::new("sh");
+    shell.args(["-c", &format!("trap '' HUP; exec '{TOOL}' {LONG}")]).current_dir(&folder.0);
+    let mut child = shell.stdout(Stdio::null()).spawn().expect("sh runs");
+    while folder.temporaries() == 0 && child.try_wait().expect("it is ours").is_none() {
+        thread::yield_now();
+    }
+    send("-HUP", &child);
+    assert!(child.wait().expect("it ends").success());
+    assert!(folder.get("stripes") == new);
+}
+
+#[test]
+fn the_living_keep_their_files_and_the_dead_lose_them() {
+    let folder = Folder::square();
+    let (old, new) = long_work();
+    folder.put("stripes", &old);
+    // A name that the tool gives, nobody's lock on it; names that only look so; and a link.
+    folder.put(".navorzim-12-ab12-0.part", b"dead");
+    folder.put(".navorzim-mine.part", b"a user's");
+    folder.put("navorzim-12-ab12-0.part", b"a user's");
+    symlink("stripes", folder.0.join(".navorzim-12-ab13-0.part")).expect("a link");
+    folder.put(".navorzim-12-ab14-0.part", b"alive");
+    let alive = File::open(folder.0.join(".navorzim-12-ab14-0.part")).expect("opened");
+    alive.lock().expect("locked");
+    folder.done("plan code 0 -o new");
+    assert!(!folder.has(".navorzim-12-ab12-0.part"));
+    for name in
+        [".navorzim-mine.part", "navorzim-12-ab12-0.part", ".navorzim-12-ab13-0.part", ".navorzim-12-ab14-0.part"]
+    {
+        assert!(folder.has(name), "{name}");
+    }
+    drop(alive);
+    folder.done("plan code 0 -o new");
+    assert!(!folder.has(".navorzim-12-ab14-0.part"));
+
+    // A run that stands still is alive.
+    let before = folder.temporaries();
+    let mut child = start(&folder, LONG);
+    while folder.temporaries() == before && child.try_wait().expect("it is ours").is_none() {
+        thread::yield_now();
+    }
+    send("-STOP", &child);
+    folder.done("plan code 0 -o new");
+    folder.done("plan code 0 -o newer");
+    send("-CONT", &child);
+    assert!(child.wait().expect("it ends").success());
+    assert!(folder.get("stripes") == new);
+    assert_eq!(folder.temporaries(), before);
+}
+
+#[test]
+fn a_folder_that_does_not_reach_the_disk_is_reported() {
+    let folder = Folder::square();
+    folder.put("stripes", &ruined(4));
+    for line in ["rebuild code 0 plan --symbol 1 stripes --in-place", "rebuild code 0 plan --symbol 1 stripes -o new"] {
+        let ran = run_with(&folder, line, "FOLDER_FAILS", "yes");
+        assert_eq!((ran.status, &*ran.out), (2, ""), "{line}: {ran:?}");
+        assert!(ran.err.contains("can't bring to the disk the folder of"), "{ran:?}");
+        assert!(ran.err.contains("is complete, but a crash may bring the old one back"), "{ran:?}");
+    }
+    assert_eq!((folder.get("stripes"), folder.get("new")), (P1.repeat(4), P1.repeat(4)));
+    assert_eq!(folder.temporaries(), 0);
+}
+
+#[test]
+fn names_are_printed_without_control_characters() {
+    let folder = Folder::square();
+    let odd = "a\x1b[2J\r\n\t\u{9b}\u{202e}b'é";
+    let words = |line: &str| -> Vec<String> { line.split(' ').map(|word| word.replace("ODD", odd)).collect() };
+    let shown = "a\\u{1b}[2J\\r\\n\\t\\u{9b}\\u{202e}b'é";
+    for line in [
+        "check ODD 0 plan",
+        "plan code 0 -o ODD",
+        "check code 1 ODD",
+        "plan code 0 -o ODD/x",
+        "demo --keep ODD",
+        "encode code --symbol 1 data -o ODD",
+        "check ODD 0 plan",
+        "rebuild code 0 plan --symbol 1 ODD --in-place",
+        "family liberation 3 3 -o ODD",
+        "plan ODD 9 -o x",
+        "plan ODD 0 -o ODD",
+        "show ODD --svg ODD",
+    ] {
+        let ran = folder.run_words(words(line));
+        let said = format!("{}{}", ran.out, ran.err);
+        assert!(said.contains(shown), "{line}: {said:?}");
+        assert!(said.chars().all(|c| c == '\n' || !c.is_control() && c != '\u{202e}'), "{line}: {said:?}");
     }
 }

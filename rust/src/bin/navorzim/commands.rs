@@ -1,6 +1,6 @@
 //! The commands. Each reads its files, asks the library, and answers the text for standard output.
 use crate::arguments::{shown, Arguments};
-use crate::failure::{Failure, Refused};
+use crate::failure::{printable, Failure, Refused};
 use crate::picture::{Picture, Story, Stuck};
 use crate::sheets::{counted, Code, Plan};
 use crate::stream::{self, Pieces};
@@ -75,7 +75,7 @@ fn family(arguments: &mut Arguments) -> Result<String, Failure> {
     replacement::replace(&output, &[], &sheet)?;
     let length = sheet.len();
     let code = Code::read(&output, sheet).map_err(unlisted)?;
-    Ok(format!("wrote {}: {}, {length} bytes\n", output.display(), code.shape()))
+    Ok(format!("wrote {}: {}, {length} bytes\n", printable(&output), code.shape()))
 }
 
 fn encode(arguments: &mut Arguments) -> Result<String, Failure> {
@@ -93,7 +93,7 @@ fn encode(arguments: &mut Arguments) -> Result<String, Failure> {
     })?;
     Ok(format!(
         "wrote {}: {} of {} symbols of {symbol} bytes\n",
-        output.display(),
+        printable(&output),
         counted(stripes, "stripe"),
         code.symbols()
     ))
@@ -118,7 +118,7 @@ fn plan(arguments: &mut Arguments) -> Result<String, Failure> {
     let plan = Plan { file: output, sheet: plan };
     Ok(format!(
         "wrote {}: {length} bytes, {}, reads {reads} symbols{}\n",
-        plan.file.display(),
+        printable(&plan.file),
         counted(plan.steps().len(), "step"),
         brings_back(&code, disk, &plan)
     ))
@@ -168,9 +168,9 @@ fn rebuild(arguments: &mut Arguments) -> Result<String, Failure> {
         "rebuilt {} in {}: {}\n  by symbols of {} (L), code {} ({})\n",
         plan.wanted().words(&code, disk),
         counted(count, "stripe"),
-        output.as_ref().unwrap_or(&stripes).display(),
+        printable(output.as_ref().unwrap_or(&stripes)),
         counted(symbol, "byte"),
-        code.file.display(),
+        printable(&code.file),
         code.title()
     ))
 }
@@ -201,7 +201,7 @@ fn strip(arguments: &mut Arguments) -> Result<String, Failure> {
         })?;
     Ok(format!(
         "wrote {}: {} of disk {disk}, {} of {symbol} bytes each\n",
-        output.display(),
+        printable(&output),
         counted(count, "strip"),
         counted(code.rows, "symbol")
     ))

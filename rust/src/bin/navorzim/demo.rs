@@ -2,7 +2,7 @@
 //! brought back. It runs the tool's own commands over files, tests what comes of each, and fails if anything is other than it must be.
 use crate::arguments::Arguments;
 use crate::commands;
-use crate::failure::Failure;
+use crate::failure::{printable, Failure};
 use crate::replacement::{replace, unique_name};
 use std::ffi::OsString;
 use std::fs;
@@ -37,7 +37,7 @@ impl Folder {
     fn make(keep: Option<PathBuf>) -> Result<Folder, Failure> {
         let kept = keep.is_some();
         let path = keep.unwrap_or_else(|| std::env::temp_dir().join(unique_name()));
-        let trouble = |why: &str| Failure::File(format!("can't use {}: {why}", path.display()));
+        let trouble = |why: &str| Failure::File(format!("can't use {}: {why}", printable(&path)));
         if kept && path.is_dir() {
             let mut files = fs::read_dir(&path).map_err(|error| trouble(&error.to_string()))?;
             if files.next().is_some() {
@@ -72,7 +72,7 @@ impl Demo {
         self.say("");
         self.say("Everything came out right.");
         if self.folder.kept {
-            self.say(&format!("The files are in {}.", self.folder.path.display()));
+            self.say(&format!("The files are in {}.", printable(&self.folder.path)));
         }
         Ok(())
     }
@@ -244,7 +244,7 @@ impl Demo {
 
     /// Without the folder's name, which is long and says nothing.
     fn shortened(&self, text: &str) -> String {
-        text.replace(&format!("{}/", self.folder.path.display()), "")
+        text.replace(&format!("{}/", printable(&self.folder.path)), "")
     }
 
     fn write(&self, name: &str, bytes: &[u8]) -> Result<(), Failure> {
@@ -254,7 +254,7 @@ impl Demo {
     fn read(&self, name: &str) -> Result<Vec<u8>, Failure> {
         let path: &Path = &self.folder.path.join(name);
         let read = fs::read(path);
-        read.map_err(|error| Failure::File(format!("can't read {}: {error}", path.display())))
+        read.map_err(|error| Failure::File(format!("can't read {}: {error}", printable(path))))
     }
 }
 

@@ -26,6 +26,19 @@ pub struct Refused {
     pub file: Option<PathBuf>,
 }
 
+/// A file's name for a message: what would move a terminal's cursor, end the line or turn its direction is shown as an escape.
+pub fn printable(path: &Path) -> String {
+    let turns = |c: char| matches!(c, '\u{200e}' | '\u{200f}' | '\u{2028}'..='\u{202e}' | '\u{2066}'..='\u{2069}');
+    let mut shown = String::new();
+    for c in path.to_string_lossy().chars() {
+        match c.is_control() || turns(c) {
+            true => shown.extend(c.escape_default()),
+            false => shown.push(c),
+        }
+    }
+    shown
+}
+
 impl Failure {
     /// A refusal that concerns a file.
     pub fn refused(refusal: Refusal, detail: String, file: &Path) -> Failure {
@@ -50,7 +63,7 @@ impl fmt::Display for Refused {
             write!(f, ": {}", self.detail)?;
         }
         match &self.file {
-            Some(file) => write!(f, " ({})", file.display()),
+            Some(file) => write!(f, " ({})", printable(file)),
             None => Ok(()),
         }
     }
@@ -60,7 +73,7 @@ impl fmt::Display for Failure {
     fn fmt(&self, f: &mut fmt::Formatter<'_>) -> fmt::Result {
         match self {
             Failure::Refused(refused) => write!(f, "{refused}"),
-            Failure::NoPlan { what, code, .. } => write!(f, "{what} ({})", code.display()),
+            Failure::NoPlan { what, code, .. } => write!(f, "{what} ({})", printable(code)),
             Failure::Misuse { what, command: "" } => {
                 write!(f, "{what}\n`navorzim help` says how it is used")
             }

@@ -1,5 +1,5 @@
 //! Files that are read: sheets with a limit, stripes piece by piece, and how it is noticed that somebody else wrote one meanwhile.
-use crate::failure::Failure;
+use crate::failure::{printable, Failure};
 use crate::system;
 use std::fs::{self, File, Metadata, OpenOptions, TryLockError};
 use std::io::{self, BufReader, ErrorKind, Read};
@@ -10,7 +10,7 @@ pub const BUFFER: usize = 1 << 18;
 
 /// A failure at a file.
 pub fn trouble(verb: &str, path: &Path, why: impl std::fmt::Display) -> Failure {
-    Failure::File(format!("can't {verb} {}: {why}", path.display()))
+    Failure::File(format!("can't {verb} {}: {why}", printable(path)))
 }
 
 /// A sheet's bytes, but never more than one above the longest: the library refuses those by their length, whatever follows.
@@ -24,7 +24,7 @@ pub fn read_sheet(path: &Path, longest: usize) -> Result<Vec<u8>, Failure> {
 
 /// Which file it is, how long, and when it was last touched.
 #[derive(Clone, Debug, PartialEq, Eq)]
-pub struct Stamp {
+struct Stamp {
     device: u64,
     inode: u64,
     length: u64,
@@ -33,7 +33,7 @@ pub struct Stamp {
 }
 
 impl Stamp {
-    pub fn of(metadata: &Metadata) -> Stamp {
+    fn of(metadata: &Metadata) -> Stamp {
         Stamp {
             device: metadata.dev(),
             inode: metadata.ino(),
@@ -91,6 +91,14 @@ impl Held {
             Ok(())
         } else {
             Err(self.changed())
+        }
+    }
+
+    /// Refuses if the file isn't what a path without links means: a folder on the way may have been exchanged.
+    pub fn is_at(&self, path: &Path) -> Result<(), Failure> {
+        match fs::symlink_metadata(path) {
+            Ok(now) if Stamp::of(&now) == self.found => Ok(()),
+            _ => Err(self.changed()),
         }
     }
 

@@ -20,8 +20,11 @@ A stripe is N × L bytes, symbol (disk × r + row) after symbol.
 
 Numbers are decimal. `--` ends the options. Standard input and output can't be named by -.
 A file that is written takes the old one's place when it is complete; until then, and
-after any refusal, the old one is as it was. A run that is killed may leave a file
-.navorzim-*.part beside it, which may be removed.
+after any refusal, the old one is as it was. Files are locked (flock) while they are worked
+on; a file that somebody else writes or replaces meanwhile is left to them. Owner, group,
+permissions, access list and attributes stay; what can't be kept is narrowed. A signal
+leaves no temporary file; the .navorzim-*.part of a killed run is removed by the next one
+that writes to the folder.
 
 Exit status: 0 done, 1 refused or a disk that can't be rebuilt, 2 misuse or a file that
 can't be used. A refusal is its number, its place and a sentence, on standard error.

@@ -27,7 +27,11 @@ use std::process::ExitCode;
 
 fn main() -> ExitCode {
     let given: Vec<OsString> = std::env::args_os().skip(1).collect();
-    match answer(given) {
+    system::watch_signals();
+    let answer = answer(given);
+    // All files are closed and the temporary ones are gone.
+    system::obey_signals();
+    match answer {
         Ok(text) => ExitCode::from(print(&text, 0)),
         Err(failure) => ExitCode::from(complain(&failure)),
     }

@@ -1,8 +1,9 @@
 //! Files that are written: the new version takes the old one's place whole or not at all.
-use crate::failure::Failure;
-use crate::files::{trouble, Held, Input, Purpose, Stamp, BUFFER};
-use crate::rights;
-use std::fs::{self, File, Metadata, OpenOptions};
+use crate::failure::{printable, Failure};
+use crate::files::{trouble, Held, Input, Purpose, BUFFER};
+use crate::{rights, system};
+use std::ffi::OsStr;
+use std::fs::{self, File, Metadata, OpenOptions, TryLockError};
 use std::io::{self, BufWriter, ErrorKind, Write};
 use std::os::fd::AsFd;
 use std::os::unix::fs::{MetadataExt, OpenOptionsExt};
@@ -16,6 +17,7 @@ pub struct Replacement {
     named: PathBuf,
     /// links followed, so that a link stays one
     target: PathBuf,
+    folder: File,
     /// what stands there now
     old: Option<Held>,
     /// the file whose owner, group and permissions the new one gets
@@ -54,23 +56,29 @@ impl Replacement {
     }
 
     fn at(named: &Path, target: PathBuf, old: Option<Held>) -> Result<Replacement, Failure> {
+        go_on(named)?;
+        // Before anything is written: a folder that can't be opened can't be brought to the disk.
+        let folder = File::open(folder_of(&target));
+        let folder = folder.map_err(|error| trouble("write", named, format!("its folder: {error}")))?;
+        remove_abandoned(folder_of(&target));
         let create = |mode| create_beside(&target, mode).map_err(|error| trouble("write", named, error));
         let (model, old) = match old {
             Some(old) => (old.again()?.file, Some(old)),
             // An empty file shows what the folder and the user's mask make of a new one.
             None => {
                 let (path, model) = create(0o666)?;
-                fs::remove_file(path).map_err(|error| trouble("write", named, error))?;
+                let _ = fs::remove_file(path);
                 (model, None)
             }
         };
         let (temporary, file) = create(0o600)?;
         let writer = BufWriter::with_capacity(BUFFER, file);
-        Ok(Replacement { named: named.to_path_buf(), target, old, model, temporary: Some(temporary), writer })
+        Ok(Replacement { named: named.to_path_buf(), target, folder, old, model, temporary: Some(temporary), writer })
     }
 
     /// Adds bytes.
     pub fn write(&mut self, bytes: &[u8]) -> Result<(), Failure> {
+        go_on(&self.named)?;
         let written = self.writer.write_all(bytes);
         written.map_err(|error| self.trouble(error))
     }
@@ -84,13 +92,16 @@ impl Replacement {
         }
         if let Some(old) = &self.old {
             old.unchanged()?;
+            old.is_at(&self.target)?;
         }
+        go_on(&self.named)?;
         self.place().map_err(|error| self.trouble(error))?;
-        // The new name is in the folder, so the folder too has to reach the disk; some file systems can't be asked for that.
-        if let Ok(folder) = File::open(folder_of(&self.target)) {
-            let _ = folder.sync_all();
-        }
-        Ok(())
+        // The new name is in the folder, so the folder too has to reach the disk.
+        self.folder.sync_all().map_err(|error| {
+            let why =
+                format!("{error}; {} is complete, but a crash may bring the old one back", printable(&self.named));
+            trouble("bring to the disk the folder of", &self.named, why)
+        })
     }
 
     /// Until all is written only the owner sees it.
@@ -103,10 +114,6 @@ impl Replacement {
     fn place(&mut self) -> io::Result<()> {
         let Some(temporary) = &self.temporary else { return Ok(()) };
         match &self.old {
-            // A link to the target may lead elsewhere by now.
-            Some(old) if Stamp::of(&fs::symlink_metadata(&self.target)?) != Stamp::of(&old.file.metadata()?) => {
-                return Err(ErrorKind::StaleNetworkFileHandle.into());
-            }
             Some(_) => fs::rename(temporary, &self.target)?,
             None => name_new(temporary, &self.target)?,
         }
@@ -117,9 +124,16 @@ impl Replacement {
     fn trouble(&self, error: io::Error) -> Failure {
         match error.kind() {
             ErrorKind::AlreadyExists => trouble("write", &self.named, "somebody else made it meanwhile"),
-            ErrorKind::StaleNetworkFileHandle => trouble("write", &self.named, "the link leads elsewhere by now"),
             _ => trouble("write", &self.named, error),
         }
+    }
+}
+
+/// Refuses to go on if a signal asks for the end.
+fn go_on(path: &Path) -> Result<(), Failure> {
+    match system::ended_by() {
+        None => Ok(()),
+        Some(signal) => Err(trouble("write", path, format!("the run was ended by {signal}"))),
     }
 }
 
@@ -167,7 +181,7 @@ fn keep_apart(path: &Path, kept: &[&Path]) -> Result<(), Failure> {
     let target = identity(&fs::metadata(path).map_err(|error| trouble("write", path, error))?);
     let is_target = |found: io::Result<Metadata>| found.is_ok_and(|found| identity(&found) == target);
     if let Some(kept) = kept.iter().find(|kept| is_target(fs::metadata(kept))) {
-        return Err(trouble("write", path, format!("it is also read, as {}", kept.display())));
+        return Err(trouble("write", path, format!("it is also read, as {}", printable(kept))));
     }
     let streams =
         [("output", io::stdout().as_fd().try_clone_to_owned()), ("error", io::stderr().as_fd().try_clone_to_owned())];
@@ -186,19 +200,55 @@ fn folder_of(target: &Path) -> &Path {
     }
 }
 
-/// Creates a file under a name that nobody has, in the target's folder, since a rename can't leave the file system.
+/// Creates a file under a name that nobody has, in the target's folder, since a rename can't leave the file system. It is locked as
+/// long as this run lives.
 fn create_beside(target: &Path, mode: u32) -> io::Result<(PathBuf, File)> {
     let folder = folder_of(target);
     for attempt in 0..100 {
         let temporary = folder.join(format!(".{}-{attempt}.part", unique_name()));
         let created = OpenOptions::new().write(true).create_new(true).mode(mode).open(&temporary);
         match created {
-            Ok(file) => return Ok((temporary, file)),
+            Ok(file) if is_ours(&file)? => return Ok((temporary, file)),
+            Ok(_) => {}
             Err(error) if error.kind() == ErrorKind::AlreadyExists => {}
             Err(error) => return Err(error),
         }
     }
     Err(ErrorKind::AlreadyExists.into())
+}
+
+/// Locks a new file; another run may have taken it for an abandoned one just before, and removed it.
+fn is_ours(file: &File) -> io::Result<bool> {
+    match file.try_lock() {
+        Err(TryLockError::WouldBlock) => Ok(false),
+        Err(TryLockError::Error(error)) if error.kind() != ErrorKind::Unsupported => Err(error),
+        _ => Ok(file.metadata()?.nlink() > 0),
+    }
+}
+
+/// Removes what killed runs have left in a folder: nobody holds its lock any more. What can't be removed stays, since it does no
+/// harm to this run.
+fn remove_abandoned(folder: &Path) {
+    let Ok(entries) = fs::read_dir(folder) else { return };
+    for entry in entries.flatten() {
+        let regular = entry.file_type().is_ok_and(|kind| kind.is_file());
+        if !regular || !is_temporary(&entry.file_name()) {
+            continue;
+        }
+        let opened = OpenOptions::new().read(true).custom_flags(system::WITHOUT_WAITING).open(entry.path());
+        // The lock is held until it is removed, so that nobody begins to write to it.
+        if let Some(_dead) = opened.ok().filter(|file| file.try_lock().is_ok()) {
+            let _ = fs::remove_file(entry.path());
+        }
+    }
+}
+
+/// Whether a name is one that `create_beside` gives, and no user's.
+fn is_temporary(name: &OsStr) -> bool {
+    let parts = name.to_str().and_then(|name| name.strip_prefix(".navorzim-")?.strip_suffix(".part"));
+    let parts: Vec<&str> = parts.unwrap_or("").split('-').collect();
+    let hexadecimal = |part: &&str| !part.is_empty() && part.bytes().all(|byte| byte.is_ascii_hexdigit());
+    parts.len() == 3 && parts.iter().all(hexadecimal)
 }
 
 /// A name that no other run of the tool is likely to choose.

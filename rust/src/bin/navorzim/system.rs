@@ -9,12 +9,15 @@ use std::ffi::{c_char, c_int, c_void, CStr, CString};
 use std::fs::File;
 use std::io;
 use std::os::fd::AsRawFd;
+use std::sync::atomic::{AtomicBool, AtomicI32, Ordering};
 
 extern "C" {
     fn flistxattr(fd: c_int, list: *mut c_char, size: usize) -> isize;
     fn fgetxattr(fd: c_int, name: *const c_char, value: *mut c_void, size: usize) -> isize;
     fn fsetxattr(fd: c_int, name: *const c_char, value: *const c_void, size: usize, flags: c_int) -> c_int;
     fn fremovexattr(fd: c_int, name: *const c_char) -> c_int;
+    fn signal(number: c_int, handler: usize) -> usize;
+    fn raise(number: c_int) -> c_int;
 }
 
 /// For opening: a pipe's other end isn't waited for (O_NONBLOCK). Regular files don't know the difference.
@@ -71,5 +74,56 @@ fn absent_as<T>(absent: T) -> io::Result<T> {
     match error.raw_os_error() {
         Some(61 | 95) => Ok(absent),
         _ => Err(error),
+    }
+}
+
+/// The signals that end a run and can be caught, by their numbers and names.
+const SIGNALS: [(c_int, &str); 3] = [(1, "SIGHUP"), (2, "SIGINT"), (15, "SIGTERM")];
+/// What `signal` takes in place of a handler.
+const DEFAULT: usize = 0;
+const IGNORE: usize = 1;
+
+/// The signal that came, or 0.
+static CAUGHT: AtomicI32 = AtomicI32::new(0);
+/// Those of `SIGNALS` that were ignored when the run began, as `nohup` does.
+static IGNORED: [AtomicBool; 3] = [const { AtomicBool::new(false) }; 3];
+
+extern "C" fn note(number: c_int) {
+    CAUGHT.store(number, Ordering::Relaxed);
+}
+
+/// From here on a signal only leaves a note, so that the work can end in good order.
+pub fn watch_signals() {
+    let handler = note as extern "C" fn(c_int) as usize;
+    for ((number, _), ignored) in SIGNALS.iter().zip(&IGNORED) {
+        // Sound: the handler has the type that `signal` wants, lives as long as the program, and stores into an atomic number,
+        // which is allowed at any moment.
+        let before = unsafe { signal(*number, handler) };
+        if before == IGNORE {
+            ignored.store(true, Ordering::Relaxed);
+            // Sound: no handler is handed over.
+            unsafe { signal(*number, IGNORE) };
+        }
+    }
+}
+
+/// The signal that asks for the end, if one came.
+pub fn ended_by() -> Option<&'static str> {
+    let caught = CAUGHT.load(Ordering::Relaxed);
+    SIGNALS.iter().find(|(number, _)| *number == caught).map(|(_, name)| *name)
+}
+
+/// Signals end the run at once again, and one that came does so now: whoever waits for this run learns what ended it.
+pub fn obey_signals() {
+    for ((number, _), ignored) in SIGNALS.iter().zip(&IGNORED) {
+        if !ignored.load(Ordering::Relaxed) {
+            // Sound: no handler is handed over.
+            unsafe { signal(*number, DEFAULT) };
+        }
+    }
+    let caught = CAUGHT.load(Ordering::Relaxed);
+    if caught != 0 {
+        // Sound: nothing but a number is handed over.
+        unsafe { raise(caught) };
     }
 }
