@@ -1,15 +1,22 @@
-//! Builds the proved library with Rattle's toolchain and links it: `rt staticlib capi` proves every crate below, then makes the archive.
+//! Builds the proved library with Rattle's toolchain and links it: `rt staticlib capi` proves every crate below, which takes some
+//! minutes the first time, then makes the archive.
 use std::path::Path;
 use std::process::Command;
 
 fn main() {
     let here = std::env::var("CARGO_MANIFEST_DIR").expect("cargo names the package's folder");
     let root = Path::new(&here).parent().expect("the package lies in the repository");
-    let made = Command::new("rt")
-        .args(["staticlib", "capi"])
-        .current_dir(root)
-        .output()
-        .expect("`rt`, Rattle's toolchain, is on the PATH");
+    let made = match Command::new("rt").args(["staticlib", "capi"]).current_dir(root).output() {
+        Ok(made) => made,
+        Err(error) => {
+            println!("cargo::error=rt, Rattle's toolchain (rattle-kit-5), can't be run: {error}");
+            println!("cargo::error=It was looked for in PATH: {}", std::env::var("PATH").unwrap_or_default());
+            println!(
+                "cargo::error=It proves the library that this crate links, which takes some minutes the first time."
+            );
+            return;
+        }
+    };
     if !made.status.success() {
         panic!(
             "rt staticlib capi failed:\n{}{}",

@@ -437,6 +437,10 @@ A cell: the symbol's number and what it is; d3 is data symbol 3.
     assert!(plan.contains("0: 0 ← 2    1: 0 += 4   2: 1 ← 2    3: 1 += 7"), "{plan}");
     let planned = folder.done("show code --disk 3");
     assert!(planned.contains("Disk 3 is lost. The plan, checked"), "{planned}");
+    folder.put("mirror", &sheet(2, 1, 1, &[1, 1]));
+    assert!(folder.done("plan mirror 0 -o one").ends_with(" 1 step, reads 1 symbol\n"));
+    assert_eq!(folder.done("check mirror 0 one"), "accepted, reads 1 symbol\n");
+    assert!(folder.done("show mirror --disk 0").contains("reads 1 of 1 surviving symbol.\n"));
     // A clear reads nothing, though its source byte is 0.
     folder.put("zero", &sheet(2, 1, 1, &[1, 0]));
     let cleared = folder.done("show zero --disk 1");
@@ -531,6 +535,7 @@ fn the_stored_picture_is_the_tools_own() {
 /// What the model says about a plan, as the tool's status and the head of its message.
 fn expected(answer: Result<u64, model::No>) -> (i32, String) {
     match answer {
+        Ok(1) => (0, "accepted, reads 1 symbol\n".to_string()),
         Ok(reads) => (0, format!("accepted, reads {reads} symbols")),
         Err((number, place)) => (1, format!("navorzim: refused {number} at {place}: ")),
     }
@@ -858,6 +863,11 @@ fn help_is_there_and_its_examples_run() {
             folder.done(example.trim_end());
         }
     }
+    let help = folder.done("check --help");
+    for line in ["check --bogus --help", "check -h --bogus", "check one two three four -h", "check --symbol --help"] {
+        assert_eq!(folder.done(line), help, "{line}");
+    }
+    assert!(folder.misused("check --bogus -- --help").contains("no option --bogus"));
     assert!(folder.done("--version").starts_with("navorzim "));
     assert!(folder.has("plan.svg") && folder.has("disk0.bin") && folder.has("demo-files"));
 }

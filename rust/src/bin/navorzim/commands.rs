@@ -8,6 +8,7 @@ use crate::text::Style;
 use crate::wanted::{self, Request, Wanted};
 use crate::{demo, help, replacement, svg, text};
 use navorzim::{Family, Planning, Refusal};
+use std::ffi::OsString;
 use std::path::{Path, PathBuf};
 
 /// A command: its name, its options, its help and what it does.
@@ -36,12 +37,16 @@ pub fn find(name: &str) -> Option<&'static Command> {
 }
 
 /// Runs a command with what follows its name.
-pub fn run(command: &'static Command, given: impl IntoIterator<Item = std::ffi::OsString>) -> Result<String, Failure> {
-    let mut arguments = Arguments::read(command.name, command.options, given)?;
-    if arguments.asks_for_help() {
-        return Ok(command.help.to_string());
+pub fn run(command: &'static Command, given: impl IntoIterator<Item = OsString>) -> Result<String, Failure> {
+    let given: Vec<OsString> = given.into_iter().collect();
+    let asked = given.iter().take_while(|word| *word != "--").any(|word| word == "-h" || word == "--help");
+    match Arguments::read(command.name, command.options, given) {
+        Ok(arguments) if arguments.asks_for_help() => Ok(command.help.to_string()),
+        // Whoever asks for help gets it, whatever else can't be understood.
+        Err(_) if asked => Ok(command.help.to_string()),
+        Ok(mut arguments) => (command.run)(&mut arguments),
+        Err(failure) => Err(failure),
     }
-    (command.run)(&mut arguments)
 }
 
 fn family(arguments: &mut Arguments) -> Result<String, Failure> {
@@ -117,9 +122,10 @@ fn plan(arguments: &mut Arguments) -> Result<String, Failure> {
     let length = plan.len();
     let plan = Plan { file: output, sheet: plan };
     Ok(format!(
-        "wrote {}: {length} bytes, {}, reads {reads} symbols{}\n",
+        "wrote {}: {length} bytes, {}, reads {}{}\n",
         printable(&plan.file),
         counted(plan.steps().len(), "step"),
+        counted(reads, "symbol"),
         brings_back(&code, disk, &plan)
     ))
 }
@@ -130,7 +136,7 @@ fn check(arguments: &mut Arguments) -> Result<String, Failure> {
     arguments.finish()?;
     let (code, plan) = (Code::open(&code)?, Plan::open(&plan)?);
     let reads = checked(&code, disk, &plan)?;
-    Ok(format!("accepted, reads {reads} symbols{}\n", brings_back(&code, disk, &plan)))
+    Ok(format!("accepted, reads {}{}\n", counted(reads, "symbol"), brings_back(&code, disk, &plan)))
 }
 
 /// Of a plan with a list: what it brings back.

@@ -201,8 +201,9 @@ fn notes(code: &Code, story: &Story) -> Vec<String> {
                 Wanted::Symbols(symbols) => format!("The plan for its {}", rows(code, symbols)),
             };
             vec![format!(
-                "Disk {disk} is lost. {plan}, checked: {}, reads {reads} of {survivors} surviving symbols.",
-                counted(steps.len(), "step")
+                "Disk {disk} is lost. {plan}, checked: {}, reads {reads} of {}.",
+                counted(steps.len(), "step"),
+                counted(survivors, "surviving symbol")
             )]
         }
         Story::Stuck(stuck) => stuck.notes(code),
