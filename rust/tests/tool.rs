@@ -916,3 +916,120 @@ fn a_reader_who_leaves_is_no_failure() {
     assert_eq!(output.status.code(), Some(2));
     assert!(String::from_utf8_lossy(&output.stderr).contains("can't write the answer"));
 }
+
+/// The value of an attribute of a tag.
+fn attribute<'a>(tag: &'a str, name: &str) -> Option<&'a str> {
+    let start = tag.find(&format!(" {name}=\""))? + name.len() + 3;
+    tag[start..].split('"').next()
+}
+
+fn number(tag: &str, name: &str) -> f64 {
+    attribute(tag, name).and_then(|value| value.parse().ok()).unwrap_or_else(|| panic!("{name} in {tag}"))
+}
+
+/// Where a line of text begins and ends, by its characters: in DejaVu Sans, the widest of the fonts, a character is so much of the
+/// font's size wide on average.
+fn extent(tag: &str, words: &str) -> (f64, f64) {
+    let share = match tag {
+        _ if tag.contains("monospace") => 0.602,
+        _ if tag.contains("font-weight") => 0.71,
+        _ => 0.636,
+    };
+    let plain =
+        ["&amp;", "&lt;", "&gt;", "&quot;"].iter().fold(words.to_string(), |text, name| text.replace(name, "x"));
+    let (x, width) = (number(tag, "x"), plain.chars().count() as f64 * number(tag, "font-size") * share);
+    match attribute(tag, "text-anchor") {
+        Some("middle") => (x - width / 2.0, x + width / 2.0),
+        Some("end") => (x - width, x),
+        _ => (x, x + width),
+    }
+}
+
+/// No text stands outside the page, nor that of a cell outside the cell.
+fn texts_fit(picture: &str, what: &str) {
+    let page = picture.lines().next().expect("a page");
+    let (right, bottom) = (number(page, "width"), number(page, "height"));
+    let mut cell = None;
+    for line in picture.lines() {
+        match line.split([' ', '>']).next() {
+            Some("<g") => cell = Some((0.0, 0.0)),
+            Some("</g") => cell = None,
+            Some("<rect") if cell.is_some() => {
+                cell = Some((number(line, "x"), number(line, "x") + number(line, "width")))
+            }
+            Some("<text") => {
+                let (tag, words) = line.split_once('>').expect("a tag ends");
+                let words = words.trim_end_matches("</text>");
+                let (from, to) = extent(tag, words);
+                let (left, right) = cell.unwrap_or((4.0, right - 4.0));
+                assert!(
+                    from >= left + 2.0 && to <= right - 2.0,
+                    "{what}: '{words}' goes from {from} to {to} in {left} to {right}"
+                );
+                let y = number(tag, "y");
+                assert!(y > 10.0 && y < bottom - 4.0, "{what}: '{words}' stands at {y} of {bottom}");
+            }
+            _ => {}
+        }
+    }
+}
+
+#[test]
+fn pictures_of_every_family_fit() {
+    let folder = Folder::new();
+    let single = (1..64).flat_map(|k| (1..=32).map(move |r| ("single parity", k, r)));
+    let liberation = [3, 5, 7].into_iter().flat_map(|w| (2..=w).map(move |k| ("liberation", w, k)));
+    let diagonal = [3, 5, 7].map(|p| ("row-diagonal", p, 0));
+    let mut drawn = 0;
+    for (name, a, b) in single.chain(liberation).chain(diagonal) {
+        let Ok(sheet) = model::family(name, a, b) else { continue };
+        folder.put("code", &sheet);
+        let last = sheet[2] - 1;
+        for line in ["show code --svg out".to_string(), format!("show code --disk {last} --svg out")] {
+            folder.done(&line);
+            let picture = String::from_utf8(folder.get("out")).expect("text");
+            texts_fit(&picture, &format!("{name} {a} {b}, {line}"));
+            balanced(&picture);
+            drawn += 1;
+        }
+    }
+    println!("{drawn} pictures");
+    assert!(drawn > 400, "{drawn} pictures");
+    // Codes of no family, sums of many members, and a plan that isn't short.
+    let rows: Vec<u64> = (0..64).map(|s| if s < 32 { u64::from(u32::MAX) } else { 1 << (s - 32) }).collect();
+    folder.put("code", &sheet(2, 32, 32, &rows));
+    folder.done("show code --disk 0 --svg out");
+    texts_fit(&String::from_utf8(folder.get("out")).expect("text"), "a sum of 32");
+    folder.put("code", &sheet(2, 1, 64, &[u64::MAX, 1 << 63]));
+    assert_eq!(folder.run("show code --disk 0 --svg out").status, 1);
+    texts_fit(&String::from_utf8(folder.get("out")).expect("text"), "a pattern");
+}
+
+#[test]
+fn pictures_say_what_comes_back_and_what_disks_are_for() {
+    let folder = Folder::new();
+    folder.done("family liberation 3 3 -o code");
+    let text = folder.done("show code --disk 0 --svg out");
+    assert!(text.lines().any(|line| line.split_whitespace().eq(["data", "data", "data", "P", "Q"])), "{text}");
+    let picture = String::from_utf8(folder.get("out")).expect("text");
+    let pieces = [
+        ">0 = 3 + 6 + 9<",
+        ">2 = 5 + 8 + 11<",
+        ">parity P<",
+        ">parity Q<",
+        ">data<",
+        ">0: 0 ← 3<",
+        "role=\"img\"",
+        "<title id=\"title\">Liberation, w 3, k 3",
+        "<desc id=\"desc\">Disk 0 is lost.",
+    ];
+    for piece in pieces {
+        assert!(picture.contains(piece), "{piece}: {picture}");
+    }
+    // A symbol that is added twice cancels out, and a code of no family has no roles.
+    let folder = Folder::square();
+    folder.put("plan", &[6, 1, 4, 2, 4, 0, 4, 6, 0, 1, 0, 2, 2, 0, 4, 1, 1, 2, 2, 1, 7, 2, 1, 3, 2, 1, 3]);
+    folder.done("show code --disk 0 --plan plan --svg out");
+    let picture = String::from_utf8(folder.get("out")).expect("text");
+    assert!(picture.contains(">1 = 2 + 7<") && !picture.contains("parity"), "{picture}");
+}

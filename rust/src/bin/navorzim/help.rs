@@ -147,7 +147,8 @@ Reads the code sheet CODE and draws it: disks as columns, rows as cells.
                that aren't wanted are drawn apart
   --svg FILE   writes the picture to FILE besides
 
-Colours appear on a terminal, unless NO_COLOR is set; COLUMNS sets the width (80).
+Colours appear on a terminal, unless NO_COLOR is set; COLUMNS sets the width (else the
+terminal's own, or 80).
 
 Refused: the code sheet (1 to 6), 7 (no such disk), the plan (11 to 23), the list (23).
 

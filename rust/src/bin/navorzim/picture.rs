@@ -122,7 +122,11 @@ pub struct Picture {
     pub rows: usize,
     /// by symbol number
     pub cells: Vec<Cell>,
+    /// what each disk is for, where the code is a known one
+    pub roles: Vec<Option<&'static str>>,
     pub lost: Option<usize>,
+    /// the wanted symbols that a plan brings back, and the surviving symbols that each is the sum of
+    pub sums: Vec<(usize, u64)>,
     pub steps: Vec<Step>,
 }
 
@@ -136,6 +140,11 @@ impl Picture {
             disks: code.disks,
             rows: code.rows,
             cells: cells.collect(),
+            roles: (0..code.disks).map(|disk| code.role(disk)).collect(),
+            sums: match story {
+                Story::Plan { disk, wanted, steps, .. } => brought_back(code, *disk, wanted, steps),
+                Story::Code | Story::Stuck(_) => Vec::new(),
+            },
             lost: match story {
                 Story::Code => None,
                 Story::Plan { disk, .. } | Story::Stuck(Stuck { disk, .. }) => Some(*disk),
@@ -145,6 +154,19 @@ impl Picture {
                 Story::Code | Story::Stuck(_) => Vec::new(),
             },
         }
+    }
+
+    /// The picture in words, for those who can't see it.
+    pub fn described(&self) -> String {
+        let grid = "A grid: disks are columns, rows are cells, each with a symbol's number and what it is.".to_string();
+        let legend = self.legend().into_iter().map(|(mark, cells)| format!("{}: {cells}.", mark.meaning()));
+        let sentences: Vec<String> = self.notes.iter().cloned().chain([grid]).chain(legend).collect();
+        sentences.join(" ")
+    }
+
+    /// What a disk is for, if that is known.
+    pub fn role(&self, disk: usize) -> Option<&'static str> {
+        self.roles.get(disk).copied().flatten()
     }
 
     /// The cell of a disk and row.
@@ -184,6 +206,24 @@ fn mark(code: &Code, story: &Story, symbol: usize) -> Mark {
             (false, _) => Mark::Cancels,
         },
     }
+}
+
+/// What the steps of an accepted plan make of the survivors, symbol by symbol. A symbol that is added twice cancels out.
+fn brought_back(code: &Code, disk: usize, wanted: &Wanted, steps: &[Step]) -> Vec<(usize, u64)> {
+    let mut sums: Vec<u64> = (0..64).map(|symbol| 1 << symbol).collect();
+    for step in steps {
+        let (target, source) = (usize::from(step.target), usize::from(step.source));
+        let (before, added) = (sums.get(target).copied().unwrap_or(0), sums.get(source).copied().unwrap_or(0));
+        if let Some(sum) = sums.get_mut(target) {
+            *sum = match step.kind {
+                0 => 0,
+                1 => added,
+                _ => before ^ added,
+            };
+        }
+    }
+    let lost = (0..code.symbols()).filter(|&symbol| code.disk_of(symbol) == disk && wanted.has(symbol));
+    lost.map(|symbol| (symbol, sums[symbol])).collect()
 }
 
 /// A clear has a source byte, but it reads nothing.

@@ -82,13 +82,23 @@ impl Code {
     /// The family, if it is a known one, and the shape.
     pub fn title(&self) -> String {
         match self.family() {
-            Some(family) => format!("{family}: {}", self.shape()),
+            Some((_, family)) => format!("{family}: {}", self.shape()),
             None => self.shape(),
         }
     }
 
-    /// The family that this very sheet belongs to.
-    pub fn family(&self) -> Option<String> {
+    /// What a disk is for, if the family is a known one.
+    pub fn role(&self, disk: usize) -> Option<&'static str> {
+        let parities: &[&str] = match self.family()?.0 {
+            Family::SingleParity { .. } => &["P"],
+            Family::Liberation { .. } | Family::RowDiagonal { .. } => &["P", "Q"],
+        };
+        let data_disks = self.disks.saturating_sub(parities.len());
+        Some(disk.checked_sub(data_disks).map_or("data", |parity| parities.get(parity).unwrap_or(&"")))
+    }
+
+    /// The family that this very sheet belongs to, and its name.
+    fn family(&self) -> Option<(Family, String)> {
         let (n, r) = (self.disks as u64, self.rows as u64);
         let is = |family: Family| family.sheet().is_ok_and(|sheet| sheet == self.sheet);
         let named = [
@@ -102,7 +112,7 @@ impl Code {
                 format!("Single parity, k {}, r {r}", n.saturating_sub(1)),
             ),
         ];
-        named.into_iter().find(|(family, _)| is(*family)).map(|(_, name)| name)
+        named.into_iter().find(|(family, _)| is(*family))
     }
 
     /// The refusal of a disk, a plan or a symbol length, with the numbers at fault and the file that holds them.

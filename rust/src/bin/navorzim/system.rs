@@ -5,10 +5,10 @@
 //! keeps a pointer. The types are those of the C library on Linux.
 #![allow(unsafe_code)]
 
-use std::ffi::{c_char, c_int, c_void, CStr, CString};
+use std::ffi::{c_char, c_int, c_ulong, c_void, CStr, CString};
 use std::fs::File;
 use std::io;
-use std::os::fd::AsRawFd;
+use std::os::fd::{AsFd, AsRawFd};
 use std::sync::atomic::{AtomicBool, AtomicI32, Ordering};
 
 extern "C" {
@@ -18,6 +18,7 @@ extern "C" {
     fn fremovexattr(fd: c_int, name: *const c_char) -> c_int;
     fn signal(number: c_int, handler: usize) -> usize;
     fn raise(number: c_int) -> c_int;
+    fn ioctl(fd: c_int, request: c_ulong, ...) -> c_int;
 }
 
 /// For opening: a pipe's other end isn't waited for (O_NONBLOCK). Regular files don't know the difference.
@@ -75,6 +76,17 @@ fn absent_as<T>(absent: T) -> io::Result<T> {
         Some(61 | 95) => Ok(absent),
         _ => Err(error),
     }
+}
+
+/// How many columns a terminal has; none if it is no terminal, or doesn't know.
+pub fn columns(terminal: &impl AsFd) -> Option<usize> {
+    /// Asks for the size of a terminal (TIOCGWINSZ).
+    const SIZE: c_ulong = 0x5413;
+    // Lines, columns, and both in dots.
+    let mut size: [u16; 4] = [0; 4];
+    // Sound: the request writes four such numbers to where its third argument points, and nothing where it fails.
+    let answer = unsafe { ioctl(terminal.as_fd().as_raw_fd(), SIZE, size.as_mut_ptr()) };
+    (answer == 0 && size[1] > 0).then_some(usize::from(size[1]))
 }
 
 /// The signals that end a run and can be caught, by their numbers and names.

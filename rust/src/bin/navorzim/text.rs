@@ -1,5 +1,6 @@
 //! A picture as text for a terminal: a grid in box drawing characters, a legend, the sums that the grid shortens, the steps.
 use crate::picture::{Cell, Mark, Picture};
+use crate::system;
 use std::fmt::Write as _;
 use std::io::{stdout, IsTerminal};
 
@@ -11,11 +12,11 @@ pub struct Style {
 }
 
 impl Style {
-    /// Colours only for a terminal whose owner doesn't object; the width is what the shell says, or 80.
+    /// Colours only for a terminal whose owner doesn't object; the width is what COLUMNS says, or the terminal's own, or 80.
     pub fn of_stdout() -> Style {
         let unwanted = std::env::var_os("NO_COLOR").is_some_and(|value| !value.is_empty());
         let columns = std::env::var("COLUMNS").ok();
-        let width = columns.and_then(|text| text.parse().ok()).unwrap_or(80);
+        let width = columns.and_then(|text| text.parse().ok()).or_else(|| system::columns(&stdout())).unwrap_or(80);
         Style { colour: stdout().is_terminal() && !unwanted, width: usize::clamp(width, 40, 400) }
     }
 }
@@ -140,6 +141,11 @@ fn grid(picture: &Picture, labelling: &Labelling, disks: &[usize], style: Style)
     let heads: String = heads.collect();
     let margin = " ".repeat(MARGIN);
     let mut lines = vec![format!("{margin} {}", heads.trim_end())];
+    let roles: String =
+        disks.iter().filter_map(|&disk| picture.role(disk)).map(|role| format!("{role:^width$} ")).collect();
+    if !roles.is_empty() {
+        lines.push(format!("{margin} {}", roles.trim_end()));
+    }
     lines.push(rule(&margin, disks.len(), width, ['┌', '┬', '┐']));
     for row in 0..picture.rows {
         let mut line = format!("row {row:<2} │");
@@ -208,7 +214,7 @@ fn steps(picture: &Picture, width: usize) -> Vec<String> {
 }
 
 /// Lines of at most so many columns, broken at spaces; the first begins with `head`, the others below what follows it.
-fn wrapped(text: &str, head: &str, width: usize) -> Vec<String> {
+pub fn wrapped(text: &str, head: &str, width: usize) -> Vec<String> {
     let indent = " ".repeat(head.chars().count());
     let mut lines = Vec::new();
     let mut line = head.to_string();
