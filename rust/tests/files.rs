@@ -69,7 +69,7 @@ fn stripes_are_replaced_only_where_that_is_asked() {
 
 #[test]
 fn what_others_write_meanwhile_stays() {
-    let folder = Folder::square();
+    let folder = Folder::square_on_disk();
     let in_place = "rebuild code 0 plan --symbol 1 stripes --in-place";
     let elsewhere = "rebuild code 0 plan --symbol 1 stripes -o out";
     for (line, command, file) in [
@@ -233,7 +233,7 @@ fn temporary_files_are_seen_by_nobody_else() {
 
 #[test]
 fn a_new_file_has_the_rights_that_any_program_gives_it() {
-    let folder = Folder::square();
+    let folder = Folder::square_on_disk();
     for mask in ["022", "077", "002", "000"] {
         let line = format!("umask {mask}; rm -f out touched; touch touched; '{TOOL}' plan code 0 -o out");
         let made = Command::new("sh").args(["-c", &line]).current_dir(&folder.0).output().expect("sh runs");
@@ -244,7 +244,7 @@ fn a_new_file_has_the_rights_that_any_program_gives_it() {
 
 #[test]
 fn owner_and_group_stay_or_lose_their_rights() {
-    let folder = Folder::square();
+    let folder = Folder::square_on_disk();
     if !is_root(&folder) {
         return;
     }
@@ -286,7 +286,7 @@ const READ_ALL: &str = "import os\nprint([(n, os.getxattr('stripes', n)) for n i
 
 #[test]
 fn attributes_and_access_lists_stay_or_are_narrowed() {
-    let folder = Folder::square();
+    let folder = Folder::square_on_disk();
     let set = format!(
         "import os\nos.setxattr('stripes', 'user.origin', b'register \\x00 7')\n\
          os.setxattr('stripes', 'user.empty', b'')\nos.setxattr('stripes', 'system.posix_acl_access', {})",
@@ -315,7 +315,7 @@ fn attributes_and_access_lists_stay_or_are_narrowed() {
 
 #[test]
 fn a_folders_own_access_list_widens_nothing() {
-    let folder = Folder::square();
+    let folder = Folder::square_on_disk();
     let set = format!("import os\nos.setxattr('.', 'system.posix_acl_default', {})", access_list(6, 0));
     fs::set_permissions(folder.0.join("stripes"), Permissions::from_mode(0o640)).expect("set");
     if python(&folder, &set).is_none() {

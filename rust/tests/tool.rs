@@ -1006,6 +1006,29 @@ fn pictures_of_every_family_fit() {
 }
 
 #[test]
+fn the_readme_is_true() {
+    let folder = Folder::new();
+    fs::create_dir(folder.0.join("examples")).expect("created");
+    folder.put("examples/register.txt", include_bytes!("../../examples/register.txt"));
+    let readme = include_str!("../../README.md");
+    let lines: Vec<&str> = readme.lines().filter_map(|line| line.strip_prefix("    navorzim ")).collect();
+    assert_eq!(lines.len(), 8);
+    for line in lines {
+        folder.done(line);
+    }
+    assert_eq!(folder.get("rebuilt.bin"), folder.get("stripes.bin"));
+    // Each line of the demonstration that is quoted stands in it.
+    let said = folder.done("demo");
+    let quoted = readme.lines().skip_while(|line| *line != "## Two commands").take_while(|line| *line != "## The tool");
+    for line in quoted.filter_map(|line| line.strip_prefix("    ")).filter(|line| line.starts_with(['$', ' ', 'c'])) {
+        assert!(said.contains(line), "'{line}' isn't in {said}");
+    }
+    let picture = include_str!("../../docs/stripe.svg");
+    texts_fit(picture, "docs/stripe.svg");
+    balanced(picture);
+}
+
+#[test]
 fn pictures_say_what_comes_back_and_what_disks_are_for() {
     let folder = Folder::new();
     folder.done("family liberation 3 3 -o code");

@@ -14,18 +14,33 @@ pub const TOOL: &str = env!("CARGO_BIN_EXE_navorzim");
 pub struct Folder(pub PathBuf);
 
 impl Folder {
+    /// In memory where the system offers that: the tool brings every file to the disk, and hundreds of runs would wait for it.
     pub fn new() -> Folder {
+        let memory = PathBuf::from("/dev/shm");
+        let writable = fs::metadata(&memory).is_ok_and(|found| found.is_dir() && !found.permissions().readonly());
+        Folder::within(if writable { memory } else { std::env::temp_dir() })
+    }
+
+    fn within(parent: PathBuf) -> Folder {
         static MADE: AtomicUsize = AtomicUsize::new(0);
         let number = MADE.fetch_add(1, Ordering::Relaxed);
-        let name = format!("navorzim-test-{}-{number}", std::process::id());
-        let path = std::env::temp_dir().join(name);
+        let path = parent.join(format!("navorzim-test-{}-{number}", std::process::id()));
         fs::create_dir(&path).expect("a new folder");
         Folder(path)
     }
 
     /// With the square code, its plan P2 for disk 0 and the stripe P1.
     pub fn square() -> Folder {
-        let folder = Folder::new();
+        Folder::new().with_square()
+    }
+
+    /// The same on a disk, where files have all of their attributes.
+    pub fn square_on_disk() -> Folder {
+        Folder::within(std::env::temp_dir()).with_square()
+    }
+
+    fn with_square(self) -> Folder {
+        let folder = self;
         folder.put("code", &square_sheet());
         folder.put("plan", &P2);
         folder.put("data", &P1[..4]);
