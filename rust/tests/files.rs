@@ -176,18 +176,6 @@ fn run_as_nobody(folder: &Folder, line: &str) -> Ran {
     Ran::of(tool.uid(NOBODY).gid(NOBODY))
 }
 
-/// Runs lines of Python in the folder: extended attributes are out of the standard library's reach.
-fn python(folder: &Folder, lines: &str) -> Option<String> {
-    let output = Command::new("python3").args(["-c", lines]).current_dir(&folder.0).output().ok()?;
-    match output.status.success() {
-        true => String::from_utf8(output.stdout).ok(),
-        false => {
-            println!("not tried: {}", String::from_utf8_lossy(&output.stderr));
-            None
-        }
-    }
-}
-
 #[test]
 fn temporary_files_are_seen_by_nobody_else() {
     let folder = Folder::square();
@@ -292,13 +280,13 @@ fn attributes_and_access_lists_stay_or_are_narrowed() {
          os.setxattr('stripes', 'user.empty', b'')\nos.setxattr('stripes', 'system.posix_acl_access', {})",
         access_list(4, 0)
     );
-    if python(&folder, &set).is_none() {
+    if folder.python(&set).is_none() {
         return;
     }
-    let (before, mode) = (python(&folder, READ_ALL).expect("read"), rights(&folder, "stripes"));
+    let (before, mode) = (folder.python(READ_ALL).expect("read"), rights(&folder, "stripes"));
     assert!(before.contains("posix_acl_access") && before.contains("user.empty"), "{before}");
     folder.done("rebuild code 0 plan --symbol 1 stripes --in-place");
-    assert_eq!(python(&folder, READ_ALL).expect("read"), before);
+    assert_eq!(folder.python(READ_ALL).expect("read"), before);
     assert_eq!(rights(&folder, "stripes"), mode);
     if !is_root(&folder) {
         return;
@@ -309,7 +297,7 @@ fn attributes_and_access_lists_stay_or_are_narrowed() {
     let ran = run_as_nobody(&folder, "rebuild code 0 plan --symbol 1 stripes --in-place");
     assert_eq!(ran.status, 0, "{ran:?}");
     assert_eq!(rights(&folder, "stripes"), (0o600, NOBODY, NOBODY));
-    let after = python(&folder, READ_ALL).expect("read");
+    let after = folder.python(READ_ALL).expect("read");
     assert!(!after.contains("posix_acl_access") && after.contains("user.origin"), "{after}");
 }
 
@@ -318,18 +306,18 @@ fn a_folders_own_access_list_widens_nothing() {
     let folder = Folder::square_on_disk();
     let set = format!("import os\nos.setxattr('.', 'system.posix_acl_default', {})", access_list(6, 0));
     fs::set_permissions(folder.0.join("stripes"), Permissions::from_mode(0o640)).expect("set");
-    if python(&folder, &set).is_none() {
+    if folder.python(&set).is_none() {
         return;
     }
     folder.done("rebuild code 0 plan --symbol 1 stripes --in-place");
-    assert_eq!(python(&folder, READ_ALL).expect("read"), "[]\n");
+    assert_eq!(folder.python(READ_ALL).expect("read"), "[]\n");
     assert_eq!(rights(&folder, "stripes").0, 0o640);
     // A new file gets what any new file gets here.
     folder.put("touched", b"");
     folder.done("strip code 0 --symbol 1 stripes -o out");
     assert_eq!(rights(&folder, "out"), rights(&folder, "touched"));
     let list = |name: &str| READ_ALL.replace("'stripes'", &format!("'{name}'"));
-    assert_eq!(python(&folder, &list("out")), python(&folder, &list("touched")));
+    assert_eq!(folder.python(&list("out")), folder.python(&list("touched")));
 }
 
 #[test]

@@ -505,6 +505,30 @@ fn drawings_keep_the_width() {
 }
 
 #[test]
+fn drawings_take_the_terminals_width() {
+    let folder = Folder::new();
+    folder.done("family single-parity 63 1 -o code");
+    for (columns, set) in [(60, ""), (133, ""), (133, "60")] {
+        let lines = format!(
+            "import fcntl, os, pty, struct, subprocess, termios\n\
+             reader, terminal = pty.openpty()\n\
+             fcntl.ioctl(terminal, termios.TIOCSWINSZ, struct.pack('HHHH', 40, {columns}, 0, 0))\n\
+             env = dict(os.environ, NO_COLOR='1', COLUMNS='{set}')\n\
+             subprocess.Popen(['{TOOL}', 'show', 'code'], stdout=terminal, env=env)\n\
+             os.close(terminal)\n\
+             out = b''\n\
+             try:\n while piece := os.read(reader, 65536): out += piece\n\
+             except OSError: pass\n\
+             print(max(len(line.rstrip()) for line in out.decode().splitlines()))"
+        );
+        let Some(widest) = folder.python(&lines) else { return };
+        let (widest, limit) =
+            (widest.trim().parse::<usize>().expect("a number"), if set.is_empty() { columns } else { 60 });
+        assert!(widest <= limit && widest + 15 > limit, "{widest} of {limit} columns");
+    }
+}
+
+#[test]
 fn pictures_are_well_formed() {
     let folder = Folder::square();
     folder.put("apart", &sheet(2, 1, 2, &[1, 2]));

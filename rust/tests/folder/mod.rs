@@ -84,6 +84,18 @@ impl Folder {
         Ran::of(command)
     }
 
+    /// Runs lines of Python in the folder, for what is out of the standard library's reach; says so if that can't be tried.
+    pub fn python(&self, lines: &str) -> Option<String> {
+        let output = Command::new("python3").args(["-c", lines]).current_dir(&self.0).output().ok()?;
+        match output.status.success() {
+            true => String::from_utf8(output.stdout).ok(),
+            false => {
+                println!("not tried: {}", String::from_utf8_lossy(&output.stderr));
+                None
+            }
+        }
+    }
+
     /// How many temporary files of the tool there are.
     pub fn temporaries(&self) -> usize {
         let names = self.contents().into_keys();
