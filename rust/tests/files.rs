@@ -4,7 +4,7 @@ mod model;
 
 use folder::{Folder, Ran, P1, TOOL};
 use model::random::Random;
-use std::fs::{self, File, Permissions};
+use std::fs::{self, File, Metadata, Permissions};
 use std::os::unix::fs::{chown, symlink, MetadataExt, PermissionsExt};
 use std::os::unix::process::{CommandExt, ExitStatusExt};
 use std::path::PathBuf;
@@ -176,6 +176,20 @@ fn run_as_nobody(folder: &Folder, line: &str) -> Ran {
     Ran::of(tool.uid(NOBODY).gid(NOBODY))
 }
 
+/// Opens every temporary file there is, as a spy would, and looks at who else could; answers how many there were.
+fn spy_once(folder: &Folder, complete: u64) -> usize {
+    let entries = fs::read_dir(&folder.0).expect("a folder").flatten();
+    let parts = entries.map(|entry| entry.path()).filter(|path| path.extension().is_some());
+    // Through one open file, since the name may be gone or mean another one by the next look.
+    let found: Vec<Metadata> = parts.filter_map(|path| File::open(path).ok()?.metadata().ok()).collect();
+    for metadata in &found {
+        let (length, mode) = (metadata.len(), metadata.mode());
+        // An empty file shows nothing, and `out` is to be seen by all once it is complete.
+        assert!(length == 0 || length == complete || mode & 0o077 == 0, "{length} bytes with mode {mode:o}");
+    }
+    found.len()
+}
+
 #[test]
 fn temporary_files_are_seen_by_nobody_else() {
     let folder = Folder::square();
@@ -187,20 +201,7 @@ fn temporary_files_are_seen_by_nobody_else() {
         let spy = scope.spawn(|| {
             let mut seen = 0;
             while !stop.load(Ordering::Relaxed) {
-                let entries = fs::read_dir(&folder.0).expect("a folder").flatten();
-                for path in entries.map(|entry| entry.path()).filter(|path| path.extension().is_some()) {
-                    // Through one open file, since the name may be gone or mean another one by the next look.
-                    let Ok(file) = File::open(path) else { continue };
-                    let Ok(before) = file.metadata() else { continue };
-                    let length = before.len();
-                    // An empty file shows nothing, and `out` is to be seen by all once it is complete.
-                    assert!(
-                        length == 0 || length == 2 * data.len() as u64 || before.mode() & 0o077 == 0,
-                        "{length} {:o}",
-                        before.mode()
-                    );
-                    seen += 1;
-                }
+                seen += spy_once(&folder, 2 * data.len() as u64);
             }
             seen
         });
