@@ -449,9 +449,19 @@ fn start(folder: &Folder, line: &str) -> Child {
     tool.stdout(Stdio::null()).stderr(Stdio::null()).spawn().expect("it runs")
 }
 
-fn send(signal: &str, child: &Child) {
-    let sent = Command::new("kill").args([signal, &child.id().to_string()]).stderr(Stdio::null()).status();
-    sent.expect("kill runs");
+const HANG_UP: i32 = 1;
+const INTERRUPT: i32 = 2;
+const TERMINATE: i32 = 15;
+const CONTINUE: i32 = 18;
+const STOP: i32 = 19;
+
+/// Sends a signal at once: a program that did it would come too late for work of some milliseconds.
+fn send(signal: i32, child: &Child) {
+    extern "C" {
+        fn kill(process: i32, signal: i32) -> i32;
+    }
+    // Sound: two numbers are handed over, and the child was not waited for, so that its number is still its own.
+    unsafe { kill(child.id() as i32, signal) };
 }
 
 /// Some moment of a run that takes so long.
@@ -496,23 +506,25 @@ fn signals_leave_nothing_behind() {
     let folder = Folder::square();
     let (old, new) = long_work();
     let whole = undisturbed(&folder, &old);
-    let (mut random, mut ended) = (Random::new(15), 0);
-    for round in 0..150 {
-        let (signal, number) = [("-TERM", 15), ("-INT", 2), ("-HUP", 1)][round % 3];
+    let (mut random, mut rounds, mut ended) = (Random::new(15), 0, 0);
+    // How many come in time depends on the machine: on until some did.
+    while rounds < 150 || ended < 10 && rounds < 3000 {
+        let signal = [TERMINATE, INTERRUPT, HANG_UP][rounds % 3];
+        rounds += 1;
         folder.put("stripes", &old);
         let mut child = start(&folder, LONG);
         thread::sleep(a_moment(&mut random, whole));
         send(signal, &child);
         let status = child.wait().expect("it ends");
-        assert!(status.success() || status.signal() == Some(number), "{signal}: {status}");
+        assert!(status.success() || status.signal() == Some(signal), "{signal}: {status}");
         ended += usize::from(!status.success());
         assert_eq!(folder.temporaries(), 0, "{signal}");
         let found = folder.get("stripes");
         assert!(found == old || found == new, "{signal}: a half file of {} bytes", found.len());
         assert!(!status.success() || found == new, "{signal}");
     }
-    assert!(ended > 10, "{ended} of 150 signals came in time");
-    println!("150 signals: {ended} came in time");
+    assert!(ended >= 10, "{ended} of {rounds} signals came in time");
+    println!("{rounds} signals: {ended} came in time");
 }
 
 #[test]
@@ -525,7 +537,7 @@ fn the_demonstration_leaves_nothing_behind_when_it_is_ended() {
     for _ in 0..30 {
         let mut child = start(&folder, "demo");
         thread::sleep(a_moment(&mut random, whole));
-        send("-TERM", &child);
+        send(TERMINATE, &child);
         child.wait().expect("it ends");
         assert_eq!(names(&folder), Vec::<String>::new());
     }
@@ -542,7 +554,7 @@ fn signals_that_are_ignored_stay_so() {
     while folder.temporaries() == 0 && child.try_wait().expect("it is ours").is_none() {
         thread::yield_now();
     }
-    send("-HUP", &child);
+    send(HANG_UP, &child);
     assert!(child.wait().expect("it ends").success());
     assert!(folder.get("stripes") == new);
 }
@@ -577,10 +589,10 @@ fn the_living_keep_their_files_and_the_dead_lose_them() {
     while folder.temporaries() == before && child.try_wait().expect("it is ours").is_none() {
         thread::yield_now();
     }
-    send("-STOP", &child);
+    send(STOP, &child);
     folder.done("plan code 0 -o new");
     folder.done("plan code 0 -o newer");
-    send("-CONT", &child);
+    send(CONTINUE, &child);
     assert!(child.wait().expect("it ends").success());
     assert!(folder.get("stripes") == new);
     assert_eq!(folder.temporaries(), before);
