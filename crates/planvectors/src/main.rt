@@ -29,6 +29,7 @@ use records::number_at;
 use records::print;
 use records::print_bytes;
 use records::print_number;
+use records::print_refusal;
 use records::print_word;
 use records::product;
 use records::rest_at;
@@ -237,11 +238,8 @@ fn print_pattern(pattern: u64, unchanged: bool, good: bool) {
     print_word(good, b"good");
 }
 
-fn print_refusal(refusal: Refusal, unchanged: bool) {
-    print(b"refused");
-    print_number(refusal.number());
-    print(b" at");
-    print_number(refusal.place() as u64);
+fn print_refused(refusal: Refusal, unchanged: bool) {
+    print_refusal(refusal);
     print_word(unchanged, b"same");
 }
 
@@ -258,7 +256,7 @@ fn print_answer(record: &[u8], disk: usize, planned: Planned, buffer: &[u8], cop
         Planned::Pattern { pattern } => {
             print_pattern(pattern, same(buffer, copy), is_good(record, disk, pattern))
         }
-        Planned::Refused(refusal) => print_refusal(refusal, same(buffer, copy)),
+        Planned::Refused(refusal) => print_refused(refusal, same(buffer, copy)),
     }
 }
 

@@ -5,6 +5,7 @@ ghost use mathlib.Core.Path.{_≡_};
 ghost use Prim.Native.Nat.{_≤_, _<_};
 ghost use lib.ListN.{length};
 use libc::STDOUT_FILENO;
+use refusals::Refusal;
 
 // The byte at a place of a record, and 0 behind its end.
 pub fn byte_at(record: &[u8], at: usize) -> usize
@@ -81,6 +82,29 @@ pub fn fill(buffer: &mut [u8], start: usize, end: usize, seed: usize) {
     }
 }
 
+// Makes every byte of a buffer the same.
+pub fn flood(buffer: &mut [u8], byte: usize)
+    requires { ⌜ byte < 256 ⌝ }
+{
+    let mut i = 0;
+    while i < buffer.len() {
+        buffer[i] = byte as u8;
+        i += 1;
+    }
+}
+
+// Puts bytes over the front of a buffer, as far as it goes.
+pub fn put_over(buffer: &mut [u8], bytes: &[u8]) {
+    let mut i = 0;
+    while i < bytes.len() {
+        if i >= buffer.len() {
+            return;
+        }
+        buffer[i] = bytes[i];
+        i += 1;
+    }
+}
+
 // A long buffer, filled from a seed.
 pub fn filled(seed: usize) -> [u8; 4096]
     ensures { λ r. ⌜ 4096 ≡ length r ⌝ }
@@ -88,6 +112,17 @@ pub fn filled(seed: usize) -> [u8; 4096]
     let mut buffer = [0u8; 4096];
     fill(&mut buffer, 0, 4096, seed);
     buffer
+}
+
+// A digest in which every byte and the length count.
+pub fn digest(bytes: &[u8]) -> usize {
+    let mut sum = 0;
+    let mut i = 0;
+    while i < bytes.len() {
+        sum = (sum * 257 + byte_at(bytes, i) + 1) % 4294967291;
+        i += 1;
+    }
+    sum
 }
 
 // Whether two slices have the same length and the same bytes.
@@ -153,6 +188,14 @@ pub fn print(text: &[u8]) {
 pub fn print_number(number: u64) {
     print(b" ");
     io::print_decimal(STDOUT_FILENO, number);
+}
+
+// A refusal: its number and its place.
+pub fn print_refusal(refusal: Refusal) {
+    print(b"refused");
+    print_number(refusal.number());
+    print(b" at");
+    print_number(refusal.place() as u64);
 }
 
 // A word, after a blank, with "not-" in front of it where it does not hold.

@@ -21,7 +21,19 @@ use families::Family;
 use families::Written;
 use libc::STDIN_FILENO;
 use libc::STDOUT_FILENO;
-use refusals::Refusal;
+use records::byte_at;
+use records::digest;
+use records::end_line;
+use records::fill;
+use records::flood;
+use records::front_of;
+use records::number_at;
+use records::print;
+use records::print_number;
+use records::print_refusal;
+use records::put_over;
+use records::rest_at;
+use records::short_number_at;
 use refusals::Verdict;
 
 // The most bytes that a record has.
@@ -29,99 +41,6 @@ const RECORD: usize = 8192;
 
 // The most bytes that a long input has.
 const ROOM: usize = 262144;
-
-// The byte at a place of a record, and 0 behind its end.
-fn byte_at(record: &[u8], at: usize) -> usize
-    ensures { λ r. ⌜ r < 256 ⌝ }
-{
-    if at < record.len() {
-        return record[at] as usize;
-    }
-    0
-}
-
-fn half_number_at(record: &[u8], at: usize) -> usize
-    requires { ⌜ at ≤ 1000 ⌝ }
-    ensures { λ r. ⌜ r < 4294967296 ⌝ }
-{
-    byte_at(record, at)
-        + 256 * byte_at(record, at + 1)
-        + 65536 * byte_at(record, at + 2)
-        + 16777216 * byte_at(record, at + 3)
-}
-
-// The number in the 8 bytes at a place of a record.
-fn number_at(record: &[u8], at: usize) -> usize
-    requires { ⌜ at ≤ 900 ⌝ }
-{
-    half_number_at(record, at) + 4294967296 * half_number_at(record, at + 4)
-}
-
-// A record from a place on.
-fn rest_at(record: &[u8], at: usize) -> &[u8] {
-    if at <= record.len() {
-        return &record[at..];
-    }
-    &record[0..0]
-}
-
-// The first bytes of a part of a record, as many as asked where there are so many.
-fn front_of(part: &[u8], length: usize) -> &[u8] {
-    if length <= part.len() {
-        return &part[0..length];
-    }
-    &part[0..0]
-}
-
-// Fills a buffer from a seed.
-fn fill(buffer: &mut [u8], seed: usize) {
-    let mut state = seed % 2147483648;
-    let mut i = 0;
-    while i < buffer.len() {
-        state = (state * 1103515245 + 12345) % 2147483648;
-        buffer[i] = (state / 65536 % 256) as u8;
-        i += 1;
-    }
-}
-
-// Puts bytes over the front of a buffer, as far as it goes.
-fn put_over(buffer: &mut [u8], bytes: &[u8]) {
-    let mut i = 0;
-    while i < bytes.len() {
-        if i >= buffer.len() {
-            return;
-        }
-        buffer[i] = bytes[i];
-        i += 1;
-    }
-}
-
-// A digest in which every byte and the length count.
-fn digest(bytes: &[u8]) -> usize {
-    let mut sum = 0;
-    let mut i = 0;
-    while i < bytes.len() {
-        sum = (sum * 257 + byte_at(bytes, i) + 1) % 4294967291;
-        i += 1;
-    }
-    sum
-}
-
-fn print(text: &[u8]) {
-    io::write_all(STDOUT_FILENO, text);
-}
-
-fn print_number(number: u64) {
-    print(b" ");
-    io::print_decimal(STDOUT_FILENO, number);
-}
-
-fn print_refusal(refusal: Refusal) {
-    print(b"refused");
-    print_number(refusal.number());
-    print(b" at");
-    print_number(refusal.place() as u64);
-}
 
 fn print_verdict(verdict: Verdict) {
     match verdict {
@@ -134,11 +53,17 @@ fn print_verdict(verdict: Verdict) {
     }
 }
 
+// Fills a whole buffer from a seed.
+fn fill_all(buffer: &mut [u8], seed: usize) {
+    let length = buffer.len();
+    fill(buffer, 0, length, seed);
+}
+
 // The digest of a whole buffer, as the end of a line.
 fn print_digest(bytes: &[u8]) {
     print(b" digest");
     print_number(digest(bytes) as u64);
-    print(b"\n");
+    end_line();
 }
 
 // The bytes of a short buffer, in hex.
@@ -212,7 +137,7 @@ fn read(record: &[u8]) {
             print_refusal(refusal);
         }
     }
-    print(b"\n");
+    end_line();
 }
 
 fn family_of(which: usize, first: usize, second: usize) -> Family {
@@ -235,7 +160,7 @@ fn write_family(record: &[u8], buffer: &mut [u8]) {
         number_at(record, 9),
         number_at(record, 17),
     );
-    fill(buffer, number_at(record, 33));
+    fill_all(buffer, number_at(record, 33));
     let written = families::write_family(family, buffer);
     match written {
         Written::Sheet { length } => {
@@ -252,9 +177,9 @@ fn write_family(record: &[u8], buffer: &mut [u8]) {
 fn encode(record: &[u8], contents: &mut [u8], stripe: &mut [u8]) {
     let rest = rest_at(record, 49);
     let sheet = front_of(rest, number_at(record, 41));
-    fill(contents, number_at(record, 17));
+    fill_all(contents, number_at(record, 17));
     put_over(contents, rest_at(rest, sheet.len()));
-    fill(stripe, number_at(record, 33));
+    fill_all(stripe, number_at(record, 33));
     let verdict = encoding::encode(sheet, number_at(record, 1), contents, stripe);
     print_verdict(verdict);
     print_short(stripe);
@@ -265,7 +190,7 @@ fn show_strip(record: &[u8], stripe: &mut [u8]) {
     let disk = number_at(record, 1);
     let size = number_at(record, 9);
     let sheet = rest_at(record, 33);
-    fill(stripe, number_at(record, 25));
+    fill_all(stripe, number_at(record, 25));
     print_verdict(views::strip_verdict(sheet, disk, size, stripe));
     print_part(views::strip(sheet, disk, size, stripe));
 }
@@ -275,8 +200,8 @@ fn look_up(record: &[u8], stripe: &mut [u8], spare: &mut [u8]) {
     let size = number_at(record, 9);
     let symbol = number_at(record, 49);
     let sheet = rest_at(record, 57);
-    fill(stripe, number_at(record, 25));
-    fill(spare, number_at(record, 41));
+    fill_all(stripe, number_at(record, 25));
+    fill_all(spare, number_at(record, 41));
     print_verdict(views::look_up_verdict(sheet, disk, size, stripe, spare, symbol));
     print_part(views::look_up(sheet, disk, size, stripe, spare, symbol));
 }
@@ -295,7 +220,7 @@ fn check(record: &[u8]) {
             print_refusal(refusal);
         }
     }
-    print(b"\n");
+    end_line();
 }
 
 // The desk's text as one line: each newline is shown as a bar.
@@ -309,24 +234,13 @@ fn print_on_one_line(text: &[u8]) {
         }
         i += 1;
     }
-    print(b"\n");
+    end_line();
 }
 
 fn desk(record: &[u8]) {
     let mut out = [0u8; 160];
     let length = lines::write_lines(rest_at(record, 1), &mut out);
     print_on_one_line(front_of(&out, length));
-}
-
-// Makes every byte of a buffer the same.
-fn flood(buffer: &mut [u8], byte: usize)
-    requires { ⌜ byte < 256 ⌝ }
-{
-    let mut i = 0;
-    while i < buffer.len() {
-        buffer[i] = byte as u8;
-        i += 1;
-    }
 }
 
 // Ruins a part of a stripe, where there is such a part: with one byte throughout, for a seed below 256, or from the seed.
@@ -341,7 +255,7 @@ fn ruin(stripe: &mut [u8], start: usize, end: usize, seed: usize) {
         flood(&mut stripe[start..end], seed);
         return;
     }
-    fill(&mut stripe[start..end], seed);
+    fill(stripe, start, end, seed);
 }
 
 // Makes a valid stripe, where there is data to encode.
@@ -358,8 +272,8 @@ fn rebuild(record: &[u8], stripe: &mut [u8], contents: &mut [u8]) {
     let rest = rest_at(record, 81);
     let sheet = front_of(rest, number_at(record, 73));
     let plan = rest_at(rest, sheet.len());
-    fill(stripe, number_at(record, 25));
-    fill(contents, number_at(record, 41));
+    fill_all(stripe, number_at(record, 25));
+    fill_all(contents, number_at(record, 41));
     encode_first(sheet, size, contents, stripe);
     ruin(
         stripe,
@@ -449,7 +363,7 @@ fn next_record() -> bool {
         return false;
     }
     let mut room = record_room();
-    record_in(&mut room, byte_at(&head, 0) + 256 * byte_at(&head, 1))
+    record_in(&mut room, short_number_at(&head, 0))
 }
 
 fn main() {

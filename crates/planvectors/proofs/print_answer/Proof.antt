@@ -33,8 +33,8 @@ enum-known-planned-3 c = search needs
 same-requires-2 : tie.Need-same-requires-2
 same-requires-2 c κs = tt
 
-print-refusal-requires : tie.Need-print-refusal-requires
-print-refusal-requires c κs = tt
+print-refused-requires : tie.Need-print-refused-requires
+print-refused-requires c κs = tt
 
 returns : tie.Need-returns
 returns c = tt
@@ -59,7 +59,7 @@ print-answer-spec =
     print-pattern-requires
     enum-known-planned-3
     same-requires-2
-    print-refusal-requires
+    print-refused-requires
     returns
     returns-2
     returns-3)

@@ -7,10 +7,10 @@ use Rattle.vectors.proofs.print_on_one_line.Statement.{statement}
 use Rattle.vectors.proofs.print_on_one_line.Tie as tie
 
 abbrev Inv-loop : tie.InvT-loop
-Inv-loop text i₀ t3 t4 i = i ≤ length text
+Inv-loop text i₀ t3 i = i ≤ length text
 
 abbrev μ-loop : tie.MeasureT-loop
-μ-loop text i₀ t3 t4 i = length text - i
+μ-loop text i₀ t3 i = length text - i
 
 loop-holds : tie.Need-loop-holds Inv-loop μ-loop
 loop-holds c = omega arith
@@ -48,11 +48,8 @@ loop-less c = omega arith
 loop-again : tie.Need-loop-again Inv-loop μ-loop
 loop-again c = omega arith
 
-slice-aggregate-print-2 : tie.Need-slice-aggregate-print-2 Inv-loop μ-loop
-slice-aggregate-print-2 c = search needs
-
-print-requires-3 : tie.Need-print-requires-3 Inv-loop μ-loop
-print-requires-3 c κs = search needs
+end-line-requires : tie.Need-end-line-requires Inv-loop μ-loop
+end-line-requires c κs = tt
 
 returns : tie.Need-returns Inv-loop μ-loop
 returns c = search needs
@@ -75,6 +72,5 @@ print-on-one-line-spec =
     add-i
     loop-less
     loop-again
-    slice-aggregate-print-2
-    print-requires-3
+    end-line-requires
     returns)

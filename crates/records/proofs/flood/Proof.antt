@@ -1,26 +1,20 @@
--- `vectors::fill` ends and its products fit. The invariant: the buffer keeps its length, the state is below 2 ^ 31. Assumes nothing.
+-- `records::flood` ends and stays within the buffer. Assumes nothing.
 use mathlib.Core.Path.{_≡_}
-use Prim.Native.Nat.{_≤_, _<_, _-_}
+use Prim.Native.Nat.{_≤_, _-_}
 use native.Mathlib.Omega.{arith}
 use lib.ListN.{length, length-set}
 use borrow.Author.Needs.{needs}
-use Rattle.vectors.proofs.fill.Statement.{statement}
-use Rattle.vectors.proofs.fill.Tie as tie
+use Rattle.records.proofs.flood.Statement.{statement}
+use Rattle.records.proofs.flood.Tie as tie
 
 abbrev Inv-loop : tie.InvT-loop
-Inv-loop buffer₀ seed state₀ i₀ buffer state i = (length buffer ≡ length buffer₀) × (i ≤ length buffer) × (state < 2147483648)
+Inv-loop buffer₀ byte i₀ buffer i = (length buffer ≡ length buffer₀) × (i ≤ length buffer)
 
 abbrev μ-loop : tie.MeasureT-loop
-μ-loop buffer₀ seed state₀ i₀ buffer state i = length buffer - i
+μ-loop buffer₀ byte i₀ buffer i = length buffer - i
 
 loop-holds : tie.Need-loop-holds Inv-loop μ-loop
 loop-holds c = omega arith
-
-mul-state : tie.Need-mul-state Inv-loop μ-loop
-mul-state c = omega arith
-
-add-state : tie.Need-add-state Inv-loop μ-loop
-add-state c = omega arith
 
 cast-buffer : tie.Need-cast-buffer Inv-loop μ-loop
 cast-buffer c = omega arith
@@ -43,15 +37,13 @@ same-length c = omega arith
 returns : tie.Need-returns Inv-loop μ-loop
 returns c = search needs
 
-pub fill-spec : {M : Type 1} → statement M
-fill-spec =
+pub flood-spec : {M : Type 1} → statement M
+flood-spec =
     tie.close
     (tie.spec
     Inv-loop
     μ-loop
     loop-holds
-    mul-state
-    add-state
     cast-buffer
     slice-write-buffer
     add-i

@@ -1,11 +1,11 @@
--- `vectors::put_over` ends and stays in both slices. The invariant: the buffer keeps its length. Assumes nothing.
+-- `records::put_over` ends and stays in both slices. The invariant: the buffer keeps its length. Assumes nothing.
 use mathlib.Core.Path.{_≡_}
 use Prim.Native.Nat.{_≤_, _-_}
 use native.Mathlib.Omega.{arith}
 use lib.ListN.{length, length-set}
 use borrow.Author.Needs.{needs}
-use Rattle.vectors.proofs.put_over.Statement.{statement}
-use Rattle.vectors.proofs.put_over.Tie as tie
+use Rattle.records.proofs.put_over.Statement.{statement}
+use Rattle.records.proofs.put_over.Tie as tie
 
 abbrev Inv-loop : tie.InvT-loop
 Inv-loop buffer₀ bytes i₀ buffer i = (length buffer ≡ length buffer₀) × (i ≤ length bytes)

@@ -1,10 +1,10 @@
--- `vectors::digest` ends and its sums fit. The invariant: the digest so far is below the modulus. Assumes nothing.
+-- `records::digest` ends and its sums fit. The invariant: the digest so far is below the modulus. Assumes nothing.
 use Prim.Native.Nat.{_≤_, _<_, _-_}
 use native.Mathlib.Omega.{arith}
 use lib.ListN.{length}
 use borrow.Author.Needs.{needs}
-use Rattle.vectors.proofs.digest.Statement.{statement}
-use Rattle.vectors.proofs.digest.Tie as tie
+use Rattle.records.proofs.digest.Statement.{statement}
+use Rattle.records.proofs.digest.Tie as tie
 
 abbrev Inv-loop : tie.InvT-loop
 Inv-loop bytes sum₀ i₀ sum i = (i ≤ length bytes) × (sum < 4294967291)
