@@ -12,8 +12,7 @@ use lib.ListN.{length, take, drop, getD, set, length-append}
 use lib.Seq.{paste-suc, getD-take, take-length, length-take-le}
 use Rattle.plans.specs.Check.{checked}
 use Rattle.codes.specs.declared.Code.{Code}
-use Rattle.lines.specs.Lines.{codeSheetIn, planSheetIn, diskIn, linesOf, deskText, writtenLength, writtenOver}
-use Rattle.texts.specs.Lines.{codeLine, refusalLine}
+use Rattle.lines.specs.Lines.{codeLine, refusalLine, codeSheetIn, planSheetIn, diskIn, linesOf, deskText, writtenLength, writtenOver}
 use Rattle.texts.specs.InnerTexts.{textOf, Holds}
 use Rattle.texts.specs.declared.Text.{Text}
 use Rattle.texts.proofs.TextLaws.{length-textOf}

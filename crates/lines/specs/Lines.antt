@@ -1,7 +1,7 @@
 -- The desk program (document 01): standard input is "one disk byte, two bytes (low first) with the code sheet's length, that sheet,
 -- and a plan sheet to the end; it checks and prints." Text is a list of ASCII codes.
 use mathlib.Core.Bool.{cond}
-use mathlib.Core.List.{List, _++_}
+use mathlib.Core.List.{List, [], _∷_, _++_}
 use Prim.Native.Nat.{ℕ, _+_, _*_}
 use lib.Dec.{leb}
 use lib.ListN.{length, take, drop, getD}
@@ -9,7 +9,7 @@ use Rattle.plans.specs.Check.{checked}
 use Rattle.codes.specs.declared.Code.{Code}
 use Rattle.refusals.specs.Orders.{Outcome, Fine, Refused, Answer, Gives, Refuses}
 use Rattle.sheets.specs.CodeReading.{reading}
-use Rattle.texts.specs.Lines.{codeLine, diskLine, acceptedLines, refusalLine}
+use Rattle.texts.specs.Decimals.{labelled}
 
 -- ------------------------------------------------------------------
 -- The parts of the input. "Under three bytes of input count as an empty code sheet; where the length runs past the end, the code sheet
@@ -32,7 +32,29 @@ unfoldable pub planSheetIn : List ℕ → List ℕ
 planSheetIn input = drop (sheetLengthIn input) (drop 3 input)
 
 -- ------------------------------------------------------------------
--- The lines
+-- The lines, each ended by a newline
+
+abbrev pub newline : List ℕ
+newline = 10 ∷ []
+
+-- `code n r K`
+unfoldable pub codeLine : ℕ → ℕ → ℕ → List ℕ
+codeLine disks height dataSymbols =
+    labelled (99 ∷ 111 ∷ 100 ∷ 101 ∷ 32 ∷ []) disks ++ labelled (32 ∷ []) height ++ labelled (32 ∷ []) dataSymbols ++ newline
+
+-- `disk d`
+unfoldable pub diskLine : ℕ → List ℕ
+diskLine disk = labelled (100 ∷ 105 ∷ 115 ∷ 107 ∷ 32 ∷ []) disk ++ newline
+
+-- `accepted`, then `reads m`
+unfoldable pub acceptedLines : ℕ → List ℕ
+acceptedLines reads =
+    labelled (97 ∷ 99 ∷ 99 ∷ 101 ∷ 112 ∷ 116 ∷ 101 ∷ 100 ∷ 10 ∷ 114 ∷ 101 ∷ 97 ∷ 100 ∷ 115 ∷ 32 ∷ []) reads ++ newline
+
+-- `refused N at P`
+unfoldable pub refusalLine : ℕ → ℕ → List ℕ
+refusalLine number place =
+    labelled (114 ∷ 101 ∷ 102 ∷ 117 ∷ 115 ∷ 101 ∷ 100 ∷ 32 ∷ []) number ++ labelled (32 ∷ 97 ∷ 116 ∷ 32 ∷ []) place ++ newline
 
 -- What the check answers
 abbrev pub answerLines : Answer ℕ → List ℕ

@@ -2,11 +2,10 @@
 ghost use mathlib.Core.Path.{_≡_};
 ghost use Prim.Native.Nat.{_≤_, _<_};
 ghost use lib.ListN.{length};
-ghost use Rattle.lines.specs.Lines.{sheetLengthIn, codeSheetIn, planSheetIn, answerLines, linesOf, deskText, writtenLength, writtenOver};
+ghost use Rattle.lines.specs.Lines.{sheetLengthIn, codeSheetIn, planSheetIn, refusalLine, answerLines, linesOf, deskText, writtenLength, writtenOver};
 ghost use Rattle.refusals.specs.Refusals.{numbered};
 ghost use Rattle.refusals.specs.Orders.{Fine};
 ghost use Rattle.plans.specs.Check.{asChecked};
-ghost use Rattle.texts.specs.Lines.{refusalLine};
 ghost use Rattle.texts.specs.InnerTexts.{textOf, HasRoom, Extended, Holds};
 use checker::Checked;
 use checker::check;
@@ -16,7 +15,13 @@ use refusals::Verdict;
 use sheets::byte_at;
 use sheets::read_code;
 use texts::Text;
-use texts::push_refusal;
+
+mod push; // push.rt: the lines, one by one
+
+use push::push_accepted;
+use push::push_code;
+use push::push_disk;
+use push::push_refusal;
 
 // The code sheet's length, low byte first.
 fn sheet_length(input: &[u8]) -> usize
@@ -56,7 +61,7 @@ fn push_answer(text: Text, answer: Checked) -> Text
     ensures { λ r. ⌜ Extended text 53 (answerLines (asChecked answer)) r ⌝ }
 {
     match answer {
-        Checked::Accepted { reads } => text.push_accepted(reads),
+        Checked::Accepted { reads } => push_accepted(text, reads),
         Checked::Refused(refusal) => push_refusal(text, refusal),
     }
 }
@@ -73,10 +78,13 @@ fn report(code: Code, disk: usize, answer: Checked) -> Text
     ensures { λ r. ⌜ Holds r (linesOf Fine code disk (asChecked answer)) ⌝ }
 {
     let layout = code.layout;
-    let opening = Text::empty()
-        .push_code(layout.disks, layout.height, code.data_symbols)
-        .push_disk(disk);
-    push_answer(opening, answer)
+    let opening = push_code(
+        Text::empty(),
+        layout.disks,
+        layout.height,
+        code.data_symbols,
+    );
+    push_answer(push_disk(opening, disk), answer)
 }
 
 // What the desk prints for an input.

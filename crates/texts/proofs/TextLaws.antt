@@ -8,7 +8,7 @@ use lib.ListN.{length, take, getD, set, length-append, length-set}
 use lib.Seq.{take-suc-set, take-suc, take-all, length-take-le}
 use Rattle.texts.specs.Decimals.{digit, decimal}
 use Rattle.texts.proofs.DecimalLaws.{decimal-digit, decimal-last, decimal-short}
-use Rattle.texts.specs.Lines.{labelled}
+use Rattle.texts.specs.Decimals.{labelled}
 use Rattle.texts.specs.InnerTexts.{textOf, HasRoom, Extended, Holds}
 use Rattle.texts.specs.declared.Text.{Text}
 

@@ -16,3 +16,7 @@ digits (suc more) number = cond (ltb number 10) (digit number ∷ []) (digits mo
 -- All its digits, since a number has no more of them before the last than it counts
 unfoldable pub decimal : ℕ → List ℕ
 decimal number = digits number number
+
+-- A label and the number behind it
+unfoldable pub labelled : List ℕ → ℕ → List ℕ
+labelled label number = label ++ decimal number

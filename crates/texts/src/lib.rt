@@ -3,11 +3,8 @@ ghost use mathlib.Core.Path.{_≡_};
 ghost use mathlib.Core.List.{[], _∷_};
 ghost use Prim.Native.Nat.{_+_};
 ghost use lib.ListN.{length};
-ghost use Rattle.texts.specs.Decimals.{decimal};
-ghost use Rattle.texts.specs.Lines.{labelled, codeLine, diskLine, acceptedLines, refusalLine};
+ghost use Rattle.texts.specs.Decimals.{decimal, labelled};
 ghost use Rattle.texts.specs.InnerTexts.{HasRoom, Extended};
-ghost use Rattle.refusals.specs.Refusals.{numbered};
-use refusals::Refusal;
 
 // A buffer, and how many of its bytes are text.
 pub struct Text {
@@ -27,7 +24,7 @@ impl Text {
     }
 
     // One byte more.
-    fn push(self, byte: u8) -> Text
+    pub fn push(self, byte: u8) -> Text
         requires { ⌜ HasRoom self 1 ⌝ }
         ensures { λ r. ⌜ Extended self 1 (byte ∷ []) r ⌝ }
     {
@@ -67,55 +64,10 @@ impl Text {
     }
 
     // A label and the number behind it.
-    fn push_labelled(self, label: &[u8], number: usize) -> Text
+    pub fn push_labelled(self, label: &[u8], number: usize) -> Text
         requires { ⌜ HasRoom self (length (now label) + 20) ⌝ }
         ensures { λ r. ⌜ Extended self (length (now (label .entry)) + 20) (labelled (now (label .entry)) number) r ⌝ }
     {
         self.push_text(label).push_number(number)
     }
-
-    // The line `code n r K`.
-    pub fn push_code(self, disks: usize, height: usize, data_symbols: usize) -> Text
-        requires { ⌜ HasRoom self 68 ⌝ }
-        ensures { λ r. ⌜ Extended self 68 (codeLine disks height «data_symbols») r ⌝ }
-    {
-        self.push_labelled(b"code ", disks)
-            .push_labelled(b" ", height)
-            .push_labelled(b" ", data_symbols)
-            .push(10)
-    }
-
-    // The line `disk d`.
-    pub fn push_disk(self, disk: usize) -> Text
-        requires { ⌜ HasRoom self 26 ⌝ }
-        ensures { λ r. ⌜ Extended self 26 (diskLine disk) r ⌝ }
-    {
-        self.push_labelled(b"disk ", disk).push(10)
-    }
-
-    // The lines `accepted` and `reads m`.
-    pub fn push_accepted(self, reads: usize) -> Text
-        requires { ⌜ HasRoom self 36 ⌝ }
-        ensures { λ r. ⌜ Extended self 36 (acceptedLines reads) r ⌝ }
-    {
-        self.push_labelled(b"accepted\nreads ", reads).push(10)
-    }
-
-    // The line `refused N at P`.
-    pub fn push_refusal(self, number: usize, place: usize) -> Text
-        requires { ⌜ HasRoom self 53 ⌝ }
-        ensures { λ r. ⌜ Extended self 53 (refusalLine number place) r ⌝ }
-    {
-        self.push_labelled(b"refused ", number)
-            .push_labelled(b" at ", place)
-            .push(10)
-    }
-}
-
-// The line of a refusal: its number and its place.
-pub fn push_refusal(text: Text, refusal: Refusal) -> Text
-    requires { ⌜ HasRoom text 53 ⌝ }
-    ensures { λ r. ⌜ Extended text 53 (refusalLine (numbered refusal .number) (numbered refusal .place)) r ⌝ }
-{
-    text.push_refusal(refusal.number() as usize, refusal.place())
 }

@@ -1,11 +1,11 @@
--- `Text::push_disk` meets its contract. Assumes nothing.
+-- `push::push_disk` meets its contract. Assumes nothing.
 use mathlib.Core.Path.{refl}
 use native.Mathlib.Omega.{arith}
-use Rattle.texts.specs.Lines.{diskLine}
+use Rattle.lines.specs.Lines.{diskLine}
 use Rattle.texts.proofs.TextLaws.{extended-twice, extended-as}
 use borrow.Author.Needs.{needs}
-use Rattle.texts.proofs.Text.push_disk.Statement.{statement}
-use Rattle.texts.proofs.Text.push_disk.Tie as tie
+use Rattle.lines.proofs.push.push_disk.Statement.{statement}
+use Rattle.lines.proofs.push.push_disk.Tie as tie
 
 slice-aggregate-push-labelled : tie.Need-slice-aggregate-push-labelled
 slice-aggregate-push-labelled c = search needs

@@ -1,11 +1,17 @@
--- `Text::push_refusal` meets its contract. Assumes nothing.
-use mathlib.Core.Path.{refl}
+-- `push::push_refusal` meets its contract: the refusal's number and place. Assumes nothing.
+use mathlib.Core.Path.{ap₂}
 use native.Mathlib.Omega.{arith}
-use Rattle.texts.specs.Lines.{refusalLine}
+use Rattle.lines.specs.Lines.{refusalLine}
 use Rattle.texts.proofs.TextLaws.{extended-twice, extended-as}
 use borrow.Author.Needs.{needs}
-use Rattle.texts.proofs.Text.push_refusal.Statement.{statement}
-use Rattle.texts.proofs.Text.push_refusal.Tie as tie
+use Rattle.lines.proofs.push.push_refusal.Statement.{statement}
+use Rattle.lines.proofs.push.push_refusal.Tie as tie
+
+number-requires : tie.Need-number-requires
+number-requires c κs = search needs
+
+place-requires : tie.Need-place-requires
+place-requires c κs = search needs
 
 slice-aggregate-push-labelled : tie.Need-slice-aggregate-push-labelled
 slice-aggregate-push-labelled c = search needs
@@ -25,13 +31,16 @@ push-requires c κs = search needs
 returns : tie.Need-returns
 unfolding refusalLine
 returns c =
-    extended-as 53 _ (omega arith) refl
+    let told = c .before .before .before .before .before in
+    extended-as 53 _ (omega arith) (ap₂ refusalLine (told .before .number .ensures) (told .place .ensures))
     (extended-twice (extended-twice (c .before .before .before .push-labelled .ensures) (c .before .push-labelled2 .ensures)) (c .push .ensures))
 
 pub push-refusal-spec : {M : Type 1} → statement M
 push-refusal-spec =
     tie.close
     (tie.spec
+    number-requires
+    place-requires
     slice-aggregate-push-labelled
     push-labelled-requires
     slice-aggregate-push-labelled-2
