@@ -3,3 +3,9 @@ pub mod BitSetLaws
 pub mod XorLaws
 pub mod OverlapLaws
 pub mod SetLaws
+pub mod NumeralLaws
+pub mod ListLaws
+pub mod SearchLaws
+pub mod CountLaws
+pub mod StoreLaws
+pub mod PaddedLaws

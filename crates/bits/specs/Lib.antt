@@ -1,1 +1,3 @@
 pub mod BitSets
+pub mod Numerals
+pub mod Lists

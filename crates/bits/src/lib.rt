@@ -1,70 +1,111 @@
 // Rows and sets of symbols as sets of bits.
-// Code above uses these functions and never an operator on the bits of a BitSet,
-// so that the width of a set is known here alone.
+// A set's word is known here alone: code above uses these functions, and contracts speak of the set's number.
 ghost use mathlib.Core.Path.{_≡_};
-ghost use Prim.Native.Nat.{_≤_, _<_};
+ghost use Prim.Native.Nat.{_*_, _/_, _%_, _^_, _≤_, _<_};
 ghost use lib.Bits.{bitAnd, bitOr, bitXor};
 ghost use lib.Dec.{eqb};
+ghost use lib.ListN.{replicate};
 ghost use Rattle.bits.specs.BitSets.{has, with, below, count, overlap};
+ghost use Rattle.bits.specs.Numerals.{setWidth, numeral, numerals};
 
 // A row of a code, a set of symbols or a pattern: bit 0 is the lowest.
-pub type BitSet = u64;
+pub struct BitSet {
+    word: u64,
+}
+
+// How many elements a set can have.
+pub const SET_WIDTH: usize = 64;
+
+// As many sets as a set can have elements: the rows of a code, patterns and pivots.
+pub type BitSets = [BitSet; SET_WIDTH];
+
+// The set without an element.
+pub fn empty() -> BitSet
+    ensures { λ r. ⌜ numeral r ≡ 0 ⌝ }
+{
+    BitSet { word: 0 }
+}
+
+// Sets without an element.
+pub fn empty_sets() -> BitSets
+    ensures { λ r. ⌜ numerals r ≡ replicate setWidth 0 ⌝ }
+{
+    [empty(); SET_WIDTH]
+}
 
 // The sum over the field of two elements.
 pub fn sum(a: BitSet, b: BitSet) -> BitSet
-    ensures { λ r. ⌜ r ≡ bitXor a b ⌝ }
+    ensures { λ r. ⌜ numeral r ≡ bitXor (numeral a) (numeral b) ⌝ }
 {
-    a ^ b
+    BitSet {
+        word: a.word ^ b.word,
+    }
 }
 
 // Whether two sets have the same elements.
 pub fn equal(a: BitSet, b: BitSet) -> bool
-    ensures { λ r. ⌜ r ≡ eqb a b ⌝ }
+    ensures { λ r. ⌜ r ≡ eqb (numeral a) (numeral b) ⌝ }
 {
-    a == b
+    a.word == b.word
 }
 
 // Whether the set has no element.
 pub fn is_empty(set: BitSet) -> bool
-    ensures { λ r. ⌜ r ≡ eqb set 0 ⌝ }
+    ensures { λ r. ⌜ r ≡ eqb (numeral set) 0 ⌝ }
 {
-    set == 0
+    set.word == 0
 }
 
 // Whether the set has this element.
 pub fn has(set: BitSet, bit: usize) -> bool
-    requires { ⌜ bit < 64 ⌝ }
-    ensures { λ r. ⌜ r ≡ has set bit ⌝ }
+    requires { ⌜ bit < setWidth ⌝ }
+    ensures { λ r. ⌜ r ≡ has (numeral set) bit ⌝ }
 {
-    (set >> bit) % 2 == 1
+    (set.word >> bit) % 2 == 1
+}
+
+// Whether a number, which may be any, is an element of the set.
+pub fn is_element(set: BitSet, number: usize) -> bool
+    ensures { λ r. ⌜ r ≡ has (numeral set) number ⌝ }
+{
+    if SET_WIDTH <= number {
+        return false;
+    }
+    has(set, number)
 }
 
 // The set with this element besides.
 pub fn with(set: BitSet, bit: usize) -> BitSet
-    requires { ⌜ bit < 64 ⌝ }
-    ensures { λ r. ⌜ r ≡ with set bit ⌝ }
+    requires { ⌜ bit < setWidth ⌝ }
+    ensures { λ r. ⌜ numeral r ≡ with (numeral set) bit ⌝ }
 {
-    set | (1u64 << bit)
+    BitSet {
+        word: set.word | (1u64 << bit),
+    }
 }
 
 // The set of the numbers below a bound.
 pub fn below(bound: usize) -> BitSet
-    requires { ⌜ bound ≤ 64 ⌝ }
-    ensures { λ r. ⌜ r ≡ below bound ⌝ }
+    requires { ⌜ bound ≤ setWidth ⌝ }
+    ensures { λ r. ⌜ numeral r ≡ below bound ⌝ }
 {
-    if bound == 64 {
-        return 0xffff_ffff_ffff_ffff;
+    if bound == SET_WIDTH {
+        return BitSet {
+            word: 0xffff_ffff_ffff_ffff,
+        };
     }
-    (1u64 << bound) - 1
+    BitSet {
+        word: (1u64 << bound) - 1,
+    }
 }
 
 // How many elements the set has.
 pub fn count(set: BitSet) -> usize
-    ensures { λ r. ⌜ r ≡ count set ⌝ }
+    ensures { λ r. ⌜ r ≡ count (numeral set) ⌝ }
 {
     let mut ones = 0;
     let mut bit = 0;
-    while bit < 64 {
+    while bit < SET_WIDTH {
         if has(set, bit) {
             ones += 1;
         }
@@ -75,21 +116,47 @@ pub fn count(set: BitSet) -> usize
 
 // The elements that two sets share.
 pub fn common(a: BitSet, b: BitSet) -> BitSet
-    ensures { λ r. ⌜ r ≡ bitAnd a b ⌝ }
+    ensures { λ r. ⌜ numeral r ≡ bitAnd (numeral a) (numeral b) ⌝ }
 {
-    a & b
+    BitSet {
+        word: a.word & b.word,
+    }
 }
 
 // The elements of either set.
 pub fn union(a: BitSet, b: BitSet) -> BitSet
-    ensures { λ r. ⌜ r ≡ bitOr a b ⌝ }
+    ensures { λ r. ⌜ numeral r ≡ bitOr (numeral a) (numeral b) ⌝ }
 {
-    a | b
+    BitSet {
+        word: a.word | b.word,
+    }
 }
 
 // Whether two sets share an odd number of elements.
 pub fn odd_overlap(a: BitSet, b: BitSet) -> bool
-    ensures { λ r. ⌜ r ≡ eqb (overlap a b) 1 ⌝ }
+    ensures { λ r. ⌜ r ≡ eqb (overlap (numeral a) (numeral b)) 1 ⌝ }
 {
     count(common(a, b)) % 2 == 1
+}
+
+// The set whose number this is.
+pub fn of_word(word: u64) -> BitSet
+    ensures { λ r. ⌜ numeral r ≡ word ⌝ }
+{
+    BitSet { word }
+}
+
+// The number of the elements below 64.
+pub fn low_word(set: BitSet) -> u64
+    ensures { λ r. ⌜ r ≡ numeral set % 2 ^ 64 ⌝ }
+{
+    set.word
+}
+
+// Byte `at` of the set's number, the lowest first.
+pub fn byte_of(set: BitSet, at: usize) -> u8
+    requires { ⌜ at < 8 ⌝ }
+    ensures { λ r. ⌜ r ≡ numeral set / 2 ^ (8 * at) % 256 ⌝ }
+{
+    ((set.word >> (8 * at)) % 256) as u8
 }

@@ -4,30 +4,41 @@ use mathlib.Core.Path.{_≡_}
 use mathlib.Core.List.{List}
 use mathlib.Core.Bool.{cond}
 use lib.Dec.{ltb}
-use Rattle.gf2.specs.Lists.{tabulate}
+use Rattle.bits.specs.Numerals.{setWidth, numerals}
+use Rattle.bits.specs.Lists.{tabulate}
 use lib.ListN.{length, getD, take, replicate}
 use Rattle.codes.specs.declared.Code.{Code}
 use Rattle.codes.specs.declared.Layout.{Layout}
 use Rattle.codes.specs.Layouts.{symbolsOf}
 
--- The rows of so many symbols as a code holds them: row s of 64; those behind the last symbol are empty
+-- The rows of so many symbols as a code holds them: row s of as many as an array has; those behind the last symbol are empty
 unfoldable pub rowsOf : ℕ → (ℕ → ℕ) → List ℕ
-rowsOf count row = tabulate 64 (λ s. cond (ltb s count) (row s) 0)
+rowsOf count row = tabulate setWidth (λ s. cond (ltb s count) (row s) 0)
+
+-- A code by the numbers of its rows, whatever holds them: what is said of a code is said of this
+pub record LinearCode : Type 0 where
+  pub layout : Layout
+  pub «data_symbols» : ℕ
+  pub rows : List ℕ
+
+-- The code that a value of the program holds
+abbrev pub linear : Code → LinearCode
+linear code = record { layout = code .layout; data_symbols = code .data_symbols; rows = numerals (code .rows) }
 
 -- N, the number of symbols
-abbrev pub symbols : Code → ℕ
+abbrev pub symbols : LinearCode → ℕ
 symbols code = symbolsOf (code .layout)
 
 -- The N rows of the generator matrix
-abbrev pub matrix : Code → List ℕ
+abbrev pub matrix : LinearCode → List ℕ
 matrix code = take (symbols code) (code .rows)
 
 -- No array: what stands for a code where none was read
-abbrev pub noCode : Code
-noCode = record { layout = record { disks = 0; height = 0 }; data_symbols = 0; rows = replicate 64 0 }
+abbrev pub noCode : LinearCode
+noCode = record { layout = record { disks = 0; height = 0 }; data_symbols = 0; rows = replicate setWidth 0 }
 
 -- n is 2 to 64, r 1 to 32, N at most 64, K 1 to 64; each row has K bits. Rows behind the last symbol are empty
-pub record WithinLimits (code : Code) : Type 0 where
+pub record WithinLimits (code : LinearCode) : Type 0 where
   pub disks-from : 2 ≤ code .layout .disks
   pub disks-to : code .layout .disks ≤ 64
   pub height-from : 1 ≤ code .layout .height
@@ -35,6 +46,13 @@ pub record WithinLimits (code : Code) : Type 0 where
   pub symbols-to : symbols code ≤ 64
   pub data-from : 1 ≤ code .data_symbols
   pub data-to : code .data_symbols ≤ 64
-  pub rows-held : length (code .rows) ≡ 64
+  pub rows-held : length (code .rows) ≡ setWidth
   pub rows-below : (s : ℕ) → getD (code .rows) s 0 < 2 ^ code .data_symbols
   pub rows-behind : (s : ℕ) → symbols code ≤ s → getD (code .rows) s 0 ≡ 0
+
+-- A disk of an array within the limits, whose symbols a set can hold
+pub record DiskWithin (layout : Layout) (disk : ℕ) : Type 0 where
+  pub disk-below : disk < layout .disks
+  pub disks-to : layout .disks ≤ 64
+  pub height-to : layout .height ≤ 32
+  pub symbols-to : symbolsOf layout ≤ setWidth

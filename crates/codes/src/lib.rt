@@ -5,7 +5,7 @@ ghost use lib.Dec.{eqb};
 ghost use Rattle.codes.specs.Lengths.{symbolLengthFaults, stripeFaults};
 ghost use Rattle.refusals.specs.Orders.{outcome, andThen};
 ghost use Rattle.codes.specs.Layouts.{symbolsOf, firstSymbol, heightOf, diskOf, onDisk};
-use bits::BitSet;
+use bits::BitSets;
 use refusals::Refusal;
 use refusals::Verdict;
 
@@ -19,7 +19,7 @@ pub struct Layout {
 pub struct Code {
     pub layout: Layout,
     pub data_symbols: usize,
-    pub rows: [BitSet; 64],
+    pub rows: BitSets,
 }
 
 impl Layout {
