@@ -9,16 +9,12 @@ use lib.ListN.{length, getD, take}
 use borrow.Author.Tests.{leb-false, ltb-false, le-leb, lt-leb, le-ltb, eqb-true, not-false}
 use lib.Seq.{take-all}
 use Rattle.bits.specs.BitSets.{has, with}
-use Rattle.gf2.proofs.SearchLaws.{firstFrom-none, firstFrom-found, none-if-firstFrom-behind}
+use Rattle.bits.proofs.Booleans.{or-false-both, or-shift}
+use Rattle.bits.proofs.SearchLaws.{firstFrom-none, firstFrom-found, none-if-firstFrom-behind}
 use Rattle.bits.proofs.SetLaws.{has-empty, has-with}
 use Rattle.refusals.specs.Refusals.{Numbered}
 use Rattle.refusals.proofs.OrderLaws.{NoneHolds}
 use Rattle.lists.specs.Lists.{notRising, firstBad, listFaults, GoodList, listed}
-
--- Of a false disjunction both sides are false
-or-false-both : (a b : Bool) → (a || b) ≡ false → (a ≡ false) × (b ≡ false)
-or-false-both true b e = absurd (true≢false e)
-or-false-both false b e = (refl, e)
 
 -- An entry from position 1 on rises if it is above the one before it
 pub notRising-behind : (list : List ℕ) (i : ℕ) → 1 ≤ i → notRising list i ≡ leb (getD list i 0) (getD list (i - 1) 0)
@@ -82,12 +78,7 @@ listed-more [] i h s = absurd (omega arith)
 listed-more (entry ∷ list) zero h s = refl
 listed-more (entry ∷ list) (suc i) h s =
     let more : suc i + 1 ≡ suc (i + 1) = omega arith in
-    rw more (ap (λ (c : Bool). eqb s entry || c) (listed-more list i (omega arith) s) ∙ shift (eqb s entry) (eqb s (getD list i 0)) (listed (take i list) s))
-  where
-    shift : (a b c : Bool) → (a || (b || c)) ≡ (b || (a || c))
-    shift true true c = refl
-    shift true false c = refl
-    shift false b c = refl
+    rw more (ap (λ (c : Bool). eqb s entry || c) (listed-more list i (omega arith) s) ∙ or-shift (eqb s entry) (eqb s (getD list i 0)) (listed (take i list) s))
 
 -- Before the first entry nothing is listed
 pub listed-none : (list : List ℕ) (s : ℕ) → has 0 s ≡ listed (take 0 list) s
