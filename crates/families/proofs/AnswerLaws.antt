@@ -1,7 +1,7 @@
 -- What a family's verdict says of the call: its answer, its buffer, and that a sheet is read back. Assumes nothing.
 use mathlib.Core.Path.{_≡_, refl, ap, ap₂, _∙_}
 use mathlib.Core.Bool.{Bool, true, false}
-use mathlib.Core.List.{List, _++_}
+use mathlib.Core.List.{List}
 use Prim.Native.Nat.{ℕ, _≤_}
 use native.Mathlib.Omega.{arith}
 use lib.Dec.{ltb}
@@ -11,14 +11,15 @@ use borrow.Author.Tests.{ltb-false}
 use Rattle.codes.specs.Layouts.{symbolsOf}
 use Rattle.refusals.specs.Orders.{Fine, Refused, orIf, Gives, Refuses}
 use Rattle.refusals.specs.Refusals.{Numbered, _at_}
-use Rattle.sheets.specs.CodeReading.{reading}
-use Rattle.sheets.specs.CodeSheets.{sheetLength}
+use Rattle.sheets.specs.Buffers.{atFront}
+use Rattle.code_sheets.specs.CodeReading.{reading}
+use Rattle.code_sheets.specs.CodeSheets.{sheetLength}
 use Rattle.family_codes.specs.declared.Family.{Family}
 use Rattle.family_codes.specs.Families.{listed, familyLayout, familyCode}
 use Rattle.families.specs.FamilySheets.{familySheet, familyVerdict, familyAnswer, familyBuffer, ReadsBack}
 use Rattle.family_codes.proofs.LimitLaws.{familyCode-within-limits}
-use Rattle.sheets.proofs.SheetLaws.{length-codeSheet}
-use Rattle.sheets.proofs.ReadBackLaws.{reading-codeSheet}
+use Rattle.code_sheets.proofs.SheetLaws.{length-codeSheet}
+use Rattle.code_sheets.proofs.ReadBackLaws.{reading-codeSheet}
 
 -- The sheet of a listed family has 6 bytes, and 8 for each symbol
 pub length-familySheet : (family : Family) → listed family ≡ true
@@ -76,7 +77,7 @@ module _ (family : Family) (buffer : List ℕ) where
 
   -- A sheet's length is the answer, the sheet stands at the front, and it is read back
   pub written-call : (new : List ℕ) (size : ℕ) → familyVerdict family (length buffer) ≡ Fine
-      → size ≡ length (familySheet family) → new ≡ familySheet family ++ drop (length (familySheet family)) buffer
+      → size ≡ length (familySheet family) → new ≡ atFront (familySheet family) buffer
       → (Gives size ≡ familyAnswer family (length buffer))
       × ((new ≡ familyBuffer family buffer) × ReadsBack (Gives size) family new)
   unfolding familyAnswer familyBuffer

@@ -1,14 +1,15 @@
 -- A family's code sheet, written into a lent buffer (document 01, "What each call leaves"). "A family: 36, 37."
 use mathlib.Core.Path.{_≡_}
 use mathlib.Core.Bool.{not}
-use mathlib.Core.List.{List, [], _∷_, _++_}
+use mathlib.Core.List.{List, [], _∷_}
 use Prim.Native.Nat.{ℕ}
 use lib.Dec.{ltb}
-use lib.ListN.{length, take, drop}
+use lib.ListN.{length, take}
 use Rattle.refusals.specs.Orders.{Fault, _gets_, firstOf, ifFine, Outcome, Fine, Answer, Gives, Refuses, answering}
 use Rattle.refusals.specs.Refusals.{_at_, numbered}
-use Rattle.sheets.specs.CodeReading.{reading}
-use Rattle.sheets.specs.CodeSheets.{codeSheet}
+use Rattle.sheets.specs.Buffers.{atFront}
+use Rattle.code_sheets.specs.CodeReading.{reading}
+use Rattle.code_sheets.specs.CodeSheets.{codeSheet}
 use Rattle.family_codes.specs.declared.Family.{Family}
 use Rattle.families.specs.declared.Written.{Written}
 use Rattle.families.specs.declared.Written.the-variants.{Sheet, Refused}
@@ -41,7 +42,7 @@ familyAnswer family bufferLength = answering (familyVerdict family bufferLength)
 -- The sheet at the front of the buffer, bytes behind it stay; where the call refuses, no byte changes
 unfoldable pub familyBuffer : Family → List ℕ → List ℕ
 familyBuffer family buffer =
-    ifFine (familyVerdict family (length buffer)) (familySheet family ++ drop (length (familySheet family)) buffer) buffer
+    ifFine (familyVerdict family (length buffer)) (atFront (familySheet family) buffer) buffer
 
 -- Where a sheet was written, reading as many bytes as were answered refuses nothing and gives this very code
 abbrev pub ReadsBack : Answer ℕ → Family → List ℕ → Type 0

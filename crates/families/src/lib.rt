@@ -5,14 +5,14 @@ ghost use lib.ListN.{length};
 ghost use Rattle.family_codes.specs.Families.{listed};
 ghost use Rattle.refusals.specs.Orders.{outcome};
 ghost use Rattle.families.specs.FamilySheets.{familySheet, familyVerdict, asWritten, familyAnswer, familyBuffer, ReadsBack};
+use code_sheets::sheet_length;
+use code_sheets::write::write_code;
 pub use family_codes::Family;
 use family_codes::code::code_of;
 use family_codes::listed::is_listed;
 use family_codes::listed::layout_of;
 use refusals::Refusal;
 use refusals::Verdict;
-
-mod write; // write.rt: the bytes of a code sheet
 
 // The length of the sheet that was written, or why none was.
 pub enum Written {
@@ -26,7 +26,7 @@ fn sheet_length_of(family: Family) -> usize
     ensures { λ r. ⌜ r ≡ length (familySheet family) ⌝ }
 {
     let layout = layout_of(family);
-    6 + 8 * layout.symbols()
+    sheet_length(layout.symbols())
 }
 
 // The first refusal, 36 before 37. Only the sheet of a listed family has a length to compute.
@@ -51,7 +51,7 @@ pub fn write_family(family: Family, buffer: &mut [u8]) -> Written
     let verdict = verdict_on(family, buffer.len());
     match verdict {
         Verdict::Fine => {
-            write::write_code(code_of(family), buffer);
+            write_code(code_of(family), buffer);
             Written::Sheet {
                 length: sheet_length_of(family),
             }

@@ -1,13 +1,12 @@
 -- `write_family` meets its contract: by its verdict, the refusal, or the sheet and its length. Assumes nothing.
 use mathlib.Core.Path.{sym, ap, subst, _∙_}
-use mathlib.Core.List.{_++_}
 use native.Mathlib.Omega.{arith}
-use lib.ListN.{length, drop}
+use lib.ListN.{length}
 use borrow.Author.Needs.{needs}
 use Rattle.refusals.specs.Orders.{outcome}
-use Rattle.codes.specs.Codes.{WithinLimits}
-use Rattle.codes.specs.declared.Code.{Code}
-use Rattle.sheets.specs.CodeSheets.{codeSheet}
+use Rattle.codes.specs.Codes.{LinearCode, WithinLimits}
+use Rattle.sheets.specs.Buffers.{atFront}
+use Rattle.code_sheets.specs.CodeSheets.{codeSheet}
 use Rattle.family_codes.proofs.LimitLaws.{familyCode-within-limits}
 use Rattle.families.proofs.AnswerLaws.{fine-so-listed, fine-so-room, refused-call, written-call}
 use Rattle.families.proofs.write_family.Statement.{statement}
@@ -33,7 +32,7 @@ write-code-requires c κs =
     let fine = sym (told .before .before .verdict-on .ensures) ∙ ap outcome (told .enum-told .given .1) in
     let made = c .before .code-of .ensures in (
       subst WithinLimits (sym made) (familyCode-within-limits (a .family) (fine-so-listed (a .family) size fine)),
-      omega (arith, ap (λ (code : Code). length (codeSheet code)) made, fine-so-room (a .family) size fine),
+      omega (arith, ap (λ (code : LinearCode). length (codeSheet code)) made, fine-so-room (a .family) size fine),
     )
 
 sheet-length-of-requires : tie.Need-sheet-length-of-requires
@@ -57,8 +56,7 @@ returns c =
     let a = told .before .before .before .before .args in
     let fine = sym (told .before .before .verdict-on .ensures) ∙ ap outcome (told .enum-told .given .1) in
     written-call (a .family) (a .buffer .now) _ _ fine (c .sheet-length-of .ensures)
-    (written .write-code .ensures
-    ∙ ap (λ (code : Code). codeSheet code ++ drop (length (codeSheet code)) (a .buffer .now)) (made .code-of .ensures))
+    (written .write-code .ensures ∙ ap (λ (code : LinearCode). atFront (codeSheet code) (a .buffer .now)) (made .code-of .ensures))
 
 returns-2 : tie.Need-returns-2
 returns-2 c =

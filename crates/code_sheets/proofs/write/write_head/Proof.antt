@@ -1,10 +1,11 @@
--- `write::write_head` meets its contract: six stores from the front. Assumes nothing.
+-- `code_sheets::write::write_head` meets its contract: six stores from the front. Assumes nothing.
 use native.Mathlib.Omega.{arith}
 use lib.ListN.{length-set}
 use borrow.Author.Needs.{needs}
-use Rattle.families.proofs.WriteLaws.{head-stored}
-use Rattle.families.proofs.write.write_head.Statement.{statement}
-use Rattle.families.proofs.write.write_head.Tie as tie
+use Rattle.codes.specs.Codes.{linear}
+use Rattle.code_sheets.proofs.WriteLaws.{head-stored}
+use Rattle.code_sheets.proofs.write.write_head.Statement.{statement}
+use Rattle.code_sheets.proofs.write.write_head.Tie as tie
 
 symbols-requires : tie.Need-symbols-requires
 symbols-requires c κs = search needs
@@ -45,7 +46,7 @@ same-length c = search needs
 returns : tie.Need-returns
 returns c =
     let a = c .before .before .before .before .before .before .args in
-    head-stored (a .code) (a .buffer .now) _ (c .before .before .before .symbols .ensures) (omega arith)
+    head-stored (linear (a .code)) (a .buffer .now) _ (c .before .before .before .symbols .ensures) (omega arith)
 
 pub write-head-spec : {M : Type 1} → statement M
 write-head-spec =

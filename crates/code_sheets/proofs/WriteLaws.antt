@@ -1,56 +1,37 @@
 -- Laws of a code sheet's bytes as they are written from the front. Assumes nothing.
 use mathlib.Core.Path.{_≡_, sym, ap, ap₂, _∙_}
 use mathlib.Core.List.{List, [], _∷_, _++_, append-assoc, append-nil}
-use Prim.Native.Nat.{ℕ, suc, _+_, _-_, _*_, _/_, _%_, _≤_, _<_}
-use native.Mathlib.Nat.{add-zero}
+use Prim.Native.Nat.{ℕ, zero, suc, _+_, _*_, _/_, _%_, _^_, _≤_, _<_}
+use native.Mathlib.Nat.{div-one, not-suc-le-zero, le-of-suc-le-suc}
 use native.Mathlib.Numerals.{add-one}
 use native.Mathlib.Omega.{arith}
-use lib.ListN.{length, take, drop, getD, set, length-append, take-append-drop}
-use lib.Seq.{paste, paste-suc, sets, sets-eq, take-all, take-at, take-suc, drop-append-add, getD-drop, drop-drop, length-take-le}
-use Rattle.codes.specs.Codes.{symbols}
-use Rattle.codes.specs.declared.Code.{Code}
+use lib.ListN.{length, take, drop, getD, length-append, take-append-drop}
+use lib.Pow.{shr-shr}
+use lib.Seq.{sets, sets-eq, take-at, take-suc, drop-append-add, drop-drop, length-take-le}
+use Rattle.codes.specs.Codes.{LinearCode, symbols}
+use Rattle.sheets.specs.Buffers.{atFront}
 use Rattle.sheets.specs.Bytes.{lowBytes}
-use Rattle.sheets.specs.CodeSheets.{rowBytes, codeSheet, sheetLength}
-use Rattle.sheets.proofs.SheetLaws.{rowBytes-append, length-rowBytes, length-codeSheet}
+use Rattle.code_sheets.specs.CodeSheets.{rowBytes, codeSheet, sheetLength}
+use Rattle.code_sheets.proofs.SheetLaws.{rowBytes-append, length-rowBytes, length-codeSheet}
 
 -- ------------------------------------------------------------------
 -- A row
 
--- What is left of a number after i of its bytes gives the next byte, and what is left after that
-module _ (bytes : List ℕ) (size i left : ℕ) (l : i < size) (e : drop i bytes ≡ lowBytes (size - i) left) where
-  rest-of-bytes : drop i bytes ≡ left % 256 ∷ lowBytes (size - (i + 1)) (left / 256)
-  unfolding lowBytes
-  rest-of-bytes = e ∙ ap (λ (n : ℕ). lowBytes n left) sizes
-    where
-      sizes : size - i ≡ suc (size - (i + 1))
-      sizes = omega arith
-
-  pub next-byte : getD bytes i 0 ≡ left % 256
-  next-byte =
-      ap (λ (n : ℕ). getD bytes n 0) (sym (add-zero i))
-      ∙ sym (getD-drop i bytes 0 0)
-      ∙ ap (λ (b : List ℕ). getD b 0 0) rest-of-bytes
-
-  pub next-left : drop (i + 1) bytes ≡ lowBytes (size - (i + 1)) (left / 256)
-  next-left = sym (drop-drop 1 i bytes) ∙ ap (drop 1) rest-of-bytes
-
--- A byte stored at its place
-pub byte-stored : (buffer bytes new : List ℕ) (at i byte : ℕ) → at + length bytes ≤ length buffer → i < length bytes
-    → byte ≡ getD bytes i 0 → new ≡ paste buffer at bytes i → set new (at + i) byte ≡ paste buffer at bytes (i + 1)
-byte-stored buffer bytes new at i byte room l e f = rw (f, e, add-one) (paste-suc buffer at bytes i 0 (omega arith) l)
-
--- All bytes stored
-pub bytes-stored : (buffer bytes new : List ℕ) (at size i : ℕ) → length bytes ≡ size → i ≤ size → size ≤ i
-    → new ≡ paste buffer at bytes i → new ≡ take at buffer ++ bytes ++ drop (at + size) buffer
-bytes-stored buffer bytes new at size i e a b f =
-    let end : i ≡ size = omega arith in
-    rw (f, end, take-all size bytes (omega arith))
+-- Byte i of a number
+pub getD-lowBytes : (size number i : ℕ) → i < size → getD (lowBytes size number) i 0 ≡ number / 2 ^ (8 * i) % 256
+unfolding lowBytes
+getD-lowBytes zero number i l = absurd (not-suc-le-zero l)
+getD-lowBytes (suc size) number zero l = sym (ap (λ (n : ℕ). n % 256) (div-one number))
+getD-lowBytes (suc size) number (suc i) l =
+    let powers : 8 + 8 * i ≡ 8 * suc i = omega arith in
+    getD-lowBytes size (number / 256) i (le-of-suc-le-suc l)
+    ∙ ap (λ (n : ℕ). n % 256) (shr-shr number 8 (8 * i) ∙ ap (λ (n : ℕ). number / 2 ^ n) powers)
 
 -- ------------------------------------------------------------------
 -- The head
 
 -- Six stores from the front
-pub head-stored : (code : Code) (buffer : List ℕ) (count : ℕ) → count ≡ symbols code → 6 ≤ length buffer
+pub head-stored : (code : LinearCode) (buffer : List ℕ) (count : ℕ) → count ≡ symbols code → 6 ≤ length buffer
     → sets buffer 0 (4 ∷ 1 ∷ code .layout .disks ∷ code .layout .height ∷ code .data_symbols ∷ count ∷ [])
     ≡ take 6 (codeSheet code) ++ drop 6 buffer
 unfolding codeSheet
@@ -100,19 +81,23 @@ module _ (buffer rows new : List ℕ) (s : ℕ) (room : sheetLength (s + 1) ≤ 
       next : sheetLength s + 8 ≡ sheetLength (s + 1)
       next = omega arith
 
-  -- One row more is stored
-  pub withRows-more : take (sheetLength s) new ++ lowBytes 8 (getD rows s 0) ++ drop (sheetLength s + 8) new ≡ withRows buffer rows (s + 1)
-  withRows-more =
+  row-stored : take (sheetLength s) new ++ lowBytes 8 (getD rows s 0) ++ drop (sheetLength s + 8) new ≡ withRows buffer rows (s + 1)
+  row-stored =
       ap₂ (λ (a b : List ℕ). a ++ lowBytes 8 (getD rows s 0) ++ b)
       (ap (take (sheetLength s)) e ∙ take-at front (drop (sheetLength s) buffer) (sheetLength s) length-withRows-front) drop-behind-row
       ∙ ap (λ (b : List ℕ). b ++ drop (sheetLength (s + 1)) buffer)
       (append-assoc (take 6 buffer) (rowBytes (take s rows)) (lowBytes 8 (getD rows s 0))
       ∙ ap (λ (b : List ℕ). take 6 buffer ++ b) (sym (rowBytes-more rows s l)))
 
+  -- One row more is stored at its place
+  pub withRows-more : (place row : ℕ) (after : List ℕ) → place ≡ sheetLength s → row ≡ getD rows s 0
+      → after ≡ take place new ++ lowBytes 8 row ++ drop (place + 8) new → after ≡ withRows buffer rows (s + 1)
+  withRows-more place row after f g h = h ∙ ap₂ (λ (at bits : ℕ). take at new ++ lowBytes 8 bits ++ drop (at + 8) new) f g ∙ row-stored
+
 -- The whole sheet: the head, then the rows behind it
-pub sheet-stored : (code : Code) (buffer headed new : List ℕ) (count : ℕ) → count ≡ symbols code → symbols code ≤ length (code .rows)
+pub sheet-stored : (code : LinearCode) (buffer headed new : List ℕ) (count : ℕ) → count ≡ symbols code → symbols code ≤ length (code .rows)
     → headed ≡ take 6 (codeSheet code) ++ drop 6 buffer → new ≡ withRows headed (code .rows) count
-    → new ≡ codeSheet code ++ drop (length (codeSheet code)) buffer
+    → new ≡ atFront (codeSheet code) buffer
 unfolding codeSheet
 sheet-stored code buffer headed new count e h f g =
     g

@@ -1,0 +1,5 @@
+pub mod StrayLaws
+pub mod ReadingLaws
+pub mod SheetLaws
+pub mod ReadBackLaws
+pub mod WriteLaws

@@ -1,0 +1,134 @@
+-- `code_sheets::first_stray` meets its contract. The invariants: no place before the row, and none of the row before the bit, is stray. Assumes nothing.
+use Prim.Native.Nat.{ℕ, _+_, _-_, _*_, _≤_, _<_}
+use mathlib.Core.Path.{_≡_, refl, sym, ap, _∙_}
+use mathlib.Core.Bool.{true, false}
+use native.Mathlib.Nat.{zero-add}
+use native.Mathlib.Omega.{arith}
+use borrow.Author.Count.{below-none, below-more}
+use Rattle.bits.specs.BitSets.{has}
+use Rattle.bits.specs.Numerals.{numerals}
+use Rattle.bits.proofs.NumeralLaws.{getD-numerals}
+use Rattle.code_sheets.specs.CodeReading.{strayAt}
+use Rattle.bits.proofs.SearchLaws.{firstFrom-none, firstFrom-found}
+use Rattle.code_sheets.proofs.StrayLaws.{strayAt-high, skip-low-bits}
+use Rattle.code_sheets.proofs.first_stray.Statement.{statement}
+use Rattle.code_sheets.proofs.first_stray.Tie as tie
+
+abbrev Inv-loop : tie.InvT-loop
+Inv-loop symbols data-symbols rows row place₀ bits bit₀ place bit =
+    (data-symbols ≤ bit) × (bit ≤ 64) × (place ≡ symbols * 64) × ((j : ℕ) → j < row * 64 + bit → strayAt (numerals rows) data-symbols j ≡ false)
+
+abbrev μ-loop : tie.MeasureT-loop
+μ-loop symbols data-symbols rows row place₀ bits bit₀ place bit = 64 - bit
+
+abbrev Inv-search : tie.InvT-search
+Inv-search symbols data-symbols rows row₀ place₀ row place = (row ≤ symbols) × (place ≡ symbols * 64) × ((j : ℕ) → j < row * 64 → strayAt (numerals rows) data-symbols j ≡ false)
+
+abbrev μ-search : tie.MeasureT-search
+μ-search symbols data-symbols rows row₀ place₀ row place = symbols - row
+
+mul-place : tie.Need-mul-place Inv-loop μ-loop Inv-search μ-search
+mul-place c = omega (arith, c .pre .0)
+
+search-holds : tie.Need-search-holds Inv-loop μ-loop Inv-search μ-search
+search-holds c = (omega arith, refl, below-none _)
+
+mul-bits : tie.Need-mul-bits Inv-loop μ-loop Inv-search μ-search
+mul-bits c = omega (arith, c .before .before .pre .0, c .search-test .taken)
+
+array-copy-out-bits : tie.Need-array-copy-out-bits Inv-loop μ-loop Inv-search μ-search
+array-copy-out-bits c = omega (arith, c .before .before .pre .0, c .search-test .taken)
+
+loop-holds : tie.Need-loop-holds Inv-loop μ-loop Inv-search μ-search
+loop-holds c =
+    let rows = numerals (c .before .before .before .args .t1) in
+    let data-symbols = c .before .before .before .args .data-symbols in
+    let data-to = c .before .before .before .pre .1 in
+    (omega arith, data-to, c .before .before .search .inv .1, skip-low-bits rows data-symbols (c .before .before .search .row) data-to (c .before .before .search .inv .2))
+
+has-requires : tie.Need-has-requires Inv-loop μ-loop Inv-search μ-search
+has-requires c κs = omega (arith, c .loop-test .taken)
+
+mul-place-2 : tie.Need-mul-place-2 Inv-loop μ-loop Inv-search μ-search
+mul-place-2 c = omega (arith, c .before .before .before .before .before .before .before .pre .0, c .before .before .before .before .before .search-test .taken)
+
+add-place : tie.Need-add-place Inv-loop μ-loop Inv-search μ-search
+add-place c = omega (arith, c .before .before .before .before .before .before .before .pre .0, c .before .before .before .before .before .search-test .taken, c .before .before .loop-test .taken)
+
+add-bit : tie.Need-add-bit Inv-loop μ-loop Inv-search μ-search
+add-bit c = omega (arith, c .before .before .loop-test .taken)
+
+loop-less : tie.Need-loop-less Inv-loop μ-loop Inv-search μ-search
+loop-less c = omega (arith, c .before .before .loop-test .taken)
+
+loop-again : tie.Need-loop-again Inv-loop μ-loop Inv-search μ-search
+loop-again c =
+    let sets = c .before .before .before .before .before .before .before .args .t1 in
+    let rows = numerals sets in
+    let data-symbols = c .before .before .before .before .before .before .before .args .data-symbols in
+    let row = c .before .before .before .before .before .before .search .row in
+    let bit = c .before .before .before .loop .bit in
+    let from = c .before .before .before .loop .inv .0 in
+    let below : bit < 64 = omega (arith, c .before .before .loop-test .taken) in
+    let here : strayAt rows data-symbols (row * 64 + bit) ≡ false =
+    strayAt-high rows data-symbols row bit below from ∙ sym (c .before .has .ensures ∙ ap (λ (set : ℕ). has set bit) (getD-numerals sets row)) ∙ c .if1 .left in
+    let none : (j : ℕ) → j < row * 64 + bit + 1 → strayAt rows data-symbols j ≡ false =
+    below-more _ _ (c .before .before .before .loop .inv .3) here in
+    (omega (arith, from), omega (arith, below), c .before .before .before .loop .inv .2, λ j l. none j (omega (arith, l)))
+
+add-row : tie.Need-add-row Inv-loop μ-loop Inv-search μ-search
+add-row c = omega (arith, c .before .before .before .before .before .pre .0, c .before .before .before .search-test .taken)
+
+search-less : tie.Need-search-less Inv-loop μ-loop Inv-search μ-search
+search-less c = omega (arith, c .before .before .before .search-test .taken)
+
+search-again : tie.Need-search-again Inv-loop μ-loop Inv-search μ-search
+search-again c = (omega (arith, c .before .before .before .search-test .taken), c .before .loop .inv .2, λ j l. c .before .loop .inv .3 j (omega (arith, l, c .loop-test .left)))
+
+returns : tie.Need-returns Inv-loop μ-loop Inv-search μ-search
+returns c =
+    c .before .search .inv .1
+    ∙ sym (zero-add _)
+    ∙ sym
+    (firstFrom-none (strayAt (numerals (c .before .before .args .t1)) (c .before .before .args .data-symbols)) (c .before .before .args .symbols * 64) 0
+    (λ j a l. c .before .search .inv .2 j (omega (arith, l, c .search-test .left))))
+
+returns-2 : tie.Need-returns-2 Inv-loop μ-loop Inv-search μ-search
+returns-2 c =
+    let sets = c .before .before .before .before .before .before .before .args .t1 in
+    let rows = numerals sets in
+    let data-symbols = c .before .before .before .before .before .before .before .args .data-symbols in
+    let row = c .before .before .before .before .before .before .search .row in
+    let bit = c .before .before .before .loop .bit in
+    let from = c .before .before .before .loop .inv .0 in
+    let below : bit < 64 = omega (arith, c .before .before .loop-test .taken) in
+    let here : strayAt rows data-symbols (row * 64 + bit) ≡ true =
+    strayAt-high rows data-symbols row bit below from ∙ sym (c .before .has .ensures ∙ ap (λ (set : ℕ). has set bit) (getD-numerals sets row)) ∙ c .if1 .taken in
+    sym
+    (firstFrom-found (strayAt rows data-symbols) (c .before .before .before .before .before .before .before .args .symbols * 64) 0
+    (row * 64 + bit) (omega arith) (omega (arith, c .before .before .before .before .before .search-test .taken, below)) (λ j a l. c .before .before .before .loop .inv .3 j l) here)
+
+pub first-stray-spec : {M : Type 1} → statement M
+first-stray-spec =
+    tie.close
+    (tie.spec
+    Inv-loop
+    μ-loop
+    Inv-search
+    μ-search
+    mul-place
+    search-holds
+    mul-bits
+    array-copy-out-bits
+    loop-holds
+    has-requires
+    mul-place-2
+    add-place
+    add-bit
+    loop-less
+    loop-again
+    add-row
+    search-less
+    search-again
+    returns
+    returns-2)

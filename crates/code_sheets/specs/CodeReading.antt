@@ -1,0 +1,74 @@
+-- Refusals 1 to 6 and reading (document 01, "When the desk says no"):
+-- "Order for a code sheet: under 6 bytes (1), first count (3), 4, 5, second count (3), 1, 2, 6."
+use mathlib.Core.Bool.{Bool, not, _&&_}
+use mathlib.Core.List.{List, [], _∷_, _++_}
+use Prim.Native.Nat.{ℕ, _+_, _*_, _/_, _%_}
+use lib.Dec.{eqb, leb, ltb}
+use lib.ListN.{length, getD}
+use Rattle.codes.specs.Codes.{LinearCode, linear, noCode}
+use Rattle.bits.specs.BitSets.{has}
+use Rattle.bits.specs.Lists.{firstFrom}
+use Rattle.refusals.specs.Orders.{Fault, _gets_, firstOf, ifFine, Outcome, outcome}
+use Rattle.refusals.specs.Refusals.{_at_}
+use Rattle.code_sheets.specs.CodeSheets.{codeIn, sheetLength}
+use Rattle.code_sheets.specs.declared.Reading.{Reading}
+
+-- n is 2 to 64, r 1 to 32, N at most 64, K 1 to 64
+abbrev pub limitFaults : ℕ → ℕ → ℕ → List Fault
+limitFaults disks height dataSymbols =
+    (ltb disks 2 gets 5 at 0)
+    ∷ (ltb 64 disks gets 5 at 0)
+    ∷ (ltb height 1 gets 5 at 0)
+    ∷ (ltb 32 height gets 5 at 0)
+    ∷ (ltb 64 (disks * height) gets 5 at 0)
+    ∷ (ltb dataSymbols 1 gets 5 at 0)
+    ∷ (ltb 64 dataSymbols gets 5 at 0)
+    ∷ []
+
+-- The order up to the rows, for a sheet of `sheetBytes` bytes
+abbrev pub headFaults : ℕ → ℕ → ℕ → ℕ → ℕ → ℕ → ℕ → List Fault
+headFaults sheetBytes count edition disks height dataSymbols symbols =
+    (ltb sheetBytes 6 gets 1 at 0)
+    ∷ (not (eqb count 4) gets 3 at 0)
+    ∷ (not (eqb edition 1) gets 4 at 0)
+    ∷ limitFaults disks height dataSymbols
+    ++ (not (eqb symbols (disks * height)) gets 3 at 0)
+    ∷ (ltb sheetBytes (sheetLength symbols) gets 1 at 0)
+    ∷ (ltb (sheetLength symbols) sheetBytes gets 2 at 0)
+    ∷ []
+
+-- A place is row times 64 plus bit. It has a stray bit if that bit is at K or above and is set
+unfoldable pub strayAt : List ℕ → ℕ → ℕ → Bool
+strayAt rows dataSymbols place = leb dataSymbols (place % 64) && has (getD rows (place / 64) 0) (place % 64)
+
+-- The first stray bit of so many rows; the place behind the last row where there is none
+abbrev pub firstStray : List ℕ → ℕ → ℕ → ℕ
+firstStray rows count dataSymbols = firstFrom (strayAt rows dataSymbols) 0 (count * 64)
+
+-- A bit at K or above is set
+abbrev pub strayFault : List ℕ → ℕ → ℕ → Fault
+strayFault rows count dataSymbols =
+    ltb (firstStray rows count dataSymbols) (count * 64) gets 6 at firstStray rows count dataSymbols
+
+-- The whole order for a code sheet
+abbrev pub codeFaults : List ℕ → List Fault
+codeFaults sheet =
+    headFaults (length sheet) (getD sheet 0 0) (getD sheet 1 0) (getD sheet 2 0) (getD sheet 3 0) (getD sheet 4 0) (getD sheet 5 0)
+    ++ strayFault (codeIn sheet .rows) (getD sheet 5 0) (getD sheet 4 0)
+    ∷ []
+
+-- The first refusal of a code sheet, or none
+unfoldable pub codeVerdict : List ℕ → Outcome
+codeVerdict sheet = firstOf (codeFaults sheet)
+
+-- What reading a code sheet answers: the outcome, and the code where it is fine
+pub record CodeRead : Type 0 where
+  pub verdict : Outcome
+  pub code : LinearCode
+
+unfoldable pub reading : List ℕ → CodeRead
+reading sheet = record { verdict = codeVerdict sheet; code = ifFine (codeVerdict sheet) (codeIn sheet) noCode }
+
+-- What a `Reading` stands for
+abbrev pub asRead : Reading → CodeRead
+asRead read = record { verdict = outcome (read .verdict); code = linear (read .code) }

@@ -1,0 +1,2 @@
+pub mod CodeSheets
+pub mod CodeReading
