@@ -1,24 +1,23 @@
--- Laws of the families: sums over disks, and what holds of the parameters that refusal 36 lets through. Assumes nothing.
+-- Laws of the families: sums over disks, what holds of the parameters that refusal 36 lets through, and where rows stand. Assumes nothing.
 use mathlib.Core.Path.{_≡_, refl, sym, ap, ap₂, _∙_}
 use mathlib.Core.List.{List}
 use mathlib.Core.Bool.{Bool, true, false, _&&_, _||_, false≢true}
-use Prim.Native.Nat.{ℕ, zero, suc, _+_, _-_, _*_, _/_, _%_, _^_, _≤_, _<_}
-use native.Mathlib.Nat.{mul-le-mul, mul-le-mul-right}
+use Prim.Native.Nat.{ℕ, zero, suc, _+_, _-_, _*_, _%_, _^_, _≤_, _<_}
+use native.Mathlib.Nat.{mul-le-mul, mod-lt, mod-add-mod, add-mod-right, mod-eq-of-lt}
 use native.Mathlib.Numerals.{add-one}
 use native.Mathlib.Omega.{arith}
-use lib.Arith.{digits-lt}
 use lib.Bits.{bitXor, xor-lt, or-zero-l}
 use lib.Dec.{eqb, leb}
-use lib.Pow.{pow-pos, pow-lt}
-use borrow.Author.Tests.{leb-true, eqb-true, lt-ltb, le-ltb}
-use Rattle.codes.specs.Codes.{rowsOf}
-use Rattle.codes.specs.Layouts.{symbolsOf}
-use Rattle.codes.specs.declared.Code.{Code}
-use Rattle.codes.specs.declared.Layout.{Layout}
+use lib.Pow.{pow-pos}
+use borrow.Author.Tests.{leb-true, eqb-true, eq-eqb, ne-eqb, lt-ltb, le-ltb}
 use Rattle.bits.specs.BitSets.{with}
+use Rattle.codes.specs.Codes.{LinearCode, rowsOf}
+use Rattle.codes.specs.Layouts.{symbolsOf, firstSymbol, heightOf, diskOf}
+use Rattle.codes.specs.declared.Layout.{Layout}
+use Rattle.codes.proofs.LayoutLaws.{strips-in-order, strip-within, on-disk-between, on-own-disk, disk-of-below}
 use Rattle.family_codes.specs.declared.Family.{Family}
 use Rattle.family_codes.specs.declared.Family.the-variants.{SingleParity, Liberation, RowDiagonal}
-use Rattle.family_codes.specs.Families.{sumOver, dataSymbol, unit, entry, dataDisks, familyHeight, parityDisks, threeFiveOrSeven, belowLimits, listed, dataSymbols, familyLayout, parityRow, diskRow, familyRow, familyCode}
+use Rattle.family_codes.specs.Families.{sumOver, unit, entry, diagonalRow, qEntry, entryOf, dataDisks, familyHeight, parityDisks, threeFiveOrSeven, belowLimits, listed, dataSymbols, familyLayout, parityRow, diskRow, familyRow, familyCode}
 
 -- ------------------------------------------------------------------
 -- Sums
@@ -46,26 +45,47 @@ sumOver-below bits (suc count) term h =
     xor-lt bits (sumOver count term) (term count) (sumOver-below bits count term (λ c l. h c (omega arith))) (h count (omega arith))
 
 -- ------------------------------------------------------------------
--- Data symbols
+-- Rows of the matrix
 
 -- The leaf's set of one bit
 pub with-none-unit : (symbol : ℕ) → with 0 symbol ≡ unit symbol
 unfolding with unit
 with-none-unit symbol = or-zero-l (2 ^ symbol)
 
--- Row j of one of k data disks is one of their k × r data symbols
-pub dataSymbol-below : (k r c j : ℕ) → c < k → j < r → dataSymbol r c j < k * r
-dataSymbol-below k r c j h l = digits-lt h l
+-- An identity row as the program makes it
+pub entry-made : (family : Family) (layout : Layout) (disk row first none : ℕ) → layout ≡ familyLayout family
+    → first ≡ firstSymbol layout disk → none ≡ 0 → with none (first + row) ≡ entry family disk row
+entry-made family layout disk row first none e f g =
+    ap₂ with g (ap (λ (n : ℕ). n + row) (f ∙ ap (λ (l : Layout). firstSymbol l disk) e)) ∙ with-none-unit (firstSymbol (familyLayout family) disk + row)
 
--- At most 7 disks of 7 rows have fewer than 64 data symbols
-pub dataSymbol-small : (w c j : ℕ) → w ≤ 7 → c < w → j < w → dataSymbol w c j < 64
-dataSymbol-small w c j b h l =
-    omega (arith, dataSymbol-below w w c j h l, mul-le-mul {n₁ = w} {m₁ = w} {n₂ = 7} {m₂ = 7} b b)
+-- The diagonal's row j has j + c = i mod p ..
+pub diagonalRow-solves : (p i c : ℕ) → i < p → c ≤ p → (diagonalRow p i c + c) % p ≡ i
+diagonalRow-solves p i c h l =
+    let back : i + p - c + c ≡ i + p = omega arith in
+    mod-add-mod (i + p - c) p c ∙ ap (λ (n : ℕ). n % p) back ∙ add-mod-right i p ∙ mod-eq-of-lt h
 
--- An identity row has as many bits as there are data symbols
-pub entry-below : (k r c j : ℕ) → c < k → j < r → entry r c j < 2 ^ (k * r)
-unfolding unit
-entry-below k r c j h l = pow-lt (dataSymbol-below k r c j h l)
+-- .. and no other row below p has
+pub diagonalRow-alone : (p i c j : ℕ) → c ≤ p → j < p → (j + c) % p ≡ i → j ≡ diagonalRow p i c
+diagonalRow-alone p i c j l b e =
+    let front : j + c + (p - c) ≡ j + p = omega arith in
+    let split : i + (p - c) ≡ i + p - c = omega arith in
+    sym (mod-eq-of-lt b)
+    ∙ sym (add-mod-right j p)
+    ∙ ap (λ (n : ℕ). n % p) (sym front)
+    ∙ sym (mod-add-mod (j + c) p (p - c))
+    ∙ ap (λ (n : ℕ). (n + (p - c)) % p) e
+    ∙ ap (λ (n : ℕ). n % p) split
+
+-- P takes row i
+pub entryOf-of-P : (family : Family) (parity i c : ℕ) → parity ≡ 0 → entry family c i ≡ entryOf family parity i c
+unfolding entryOf
+entryOf-of-P family parity i c e = simp (eq-eqb parity 0 e)
+
+-- Q takes what the family says
+pub entryOf-of-Q : (family known : Family) (parity i c : ℕ) → ¬ (parity ≡ 0) → family ≡ known → qEntry known i c ≡ entryOf family parity i c
+unfolding entryOf
+entryOf-of-Q family known parity i c n e =
+    sym (ap (λ (f : Family). qEntry f i c) e) ∙ sym (simp (ne-eqb parity 0 n))
 
 -- ------------------------------------------------------------------
 -- Parameters
@@ -150,50 +170,101 @@ listed-bounds (RowDiagonal p) h =
 -- ------------------------------------------------------------------
 -- N and K of a listed family
 
+-- Each disk has r rows
+pub height-of-disk : (family : Family) (disk : ℕ) → heightOf (familyLayout family) disk ≡ familyHeight family
+unfolding heightOf
+height-of-disk family disk = refl
+
+-- Row j of a data disk is a data symbol
+pub dataSymbol-below : (family : Family) (c j : ℕ) → c < dataDisks family → j < familyHeight family
+    → firstSymbol (familyLayout family) c + j < dataSymbols family
+dataSymbol-below family c j l m =
+    omega (arith, strips-in-order (familyLayout family) c (dataDisks family) l, height-of-disk family c)
+
 module _ (family : Family) (h : listed family ≡ true) where
   pub symbols-to : symbolsOf (familyLayout family) ≤ 64
   unfolding symbolsOf
   symbols-to = listed-bounds family h .symbols-to
 
-  pub dataSymbols-le-symbols : dataSymbols family ≤ symbolsOf (familyLayout family)
-  unfolding symbolsOf
-  dataSymbols-le-symbols =
-      mul-le-mul-right {m = dataDisks family} {n = dataDisks family + parityDisks family} (familyHeight family) (omega arith)
-
   pub dataSymbols-to : dataSymbols family ≤ 64
-  dataSymbols-to = omega (arith, symbols-to, dataSymbols-le-symbols)
+  dataSymbols-to =
+      let b = listed-bounds family h in
+      omega (arith, symbols-to, strip-within (familyLayout family) (dataDisks family) (omega arith))
 
   pub dataSymbols-from : 1 ≤ dataSymbols family
   dataSymbols-from =
       let b = listed-bounds family h in
-      mul-le-mul {n₁ = 1} {m₁ = 1} {n₂ = dataDisks family} {m₂ = familyHeight family} (b .disks-from) (b .height-from)
+      omega (arith, dataSymbol-below family 0 0 (omega arith) (omega arith))
+
+  -- A number mod r is a row of a disk
+  pub mod-is-row : (r n : ℕ) → familyHeight family ≡ r → n % r < familyHeight family
+  mod-is-row r n e =
+      let b = listed-bounds family h in
+      omega (arith, mod-lt n {m = r} (omega arith))
+
+  -- What the functions of a layout ask for
+  pub record LayoutBounds (layout : Layout) : Type 0 where
+    pub disks-from : dataDisks family < layout .disks
+    pub disks-to : layout .disks ≤ 64
+    pub height-from : 1 ≤ layout .height
+    pub height-to : layout .height ≤ 32
+
+  pub layout-bounds : (layout : Layout) → layout ≡ familyLayout family → LayoutBounds layout
+  layout-bounds layout e =
+      let b = listed-bounds family h in
+      let disks : layout .disks ≡ dataDisks family + parityDisks family = ap (λ (l : Layout). l .disks) e in
+      let height : layout .height ≡ familyHeight family = ap (λ (l : Layout). l .height) e in
+      record { disks-from = omega arith; disks-to = omega arith; height-from = omega arith; height-to = omega arith }
+
+  -- Row j of a data disk fits a set
+  pub dataSymbol-fits : (c j : ℕ) → c < dataDisks family → j < familyHeight family → firstSymbol (familyLayout family) c + j < 64
+  dataSymbol-fits c j l m = omega (arith, dataSymbol-below family c j l m, dataSymbols-to)
 
 -- ------------------------------------------------------------------
 -- The row of a symbol
 
-module _ (family : Family) (k r : ℕ) (e : k ≡ dataDisks family) (f : r ≡ familyHeight family) where
-  pub dataSymbol-fits : listed family ≡ true → (c j : ℕ) → c < k → j < r → dataSymbol r c j < 64
-  dataSymbol-fits h c j l m = omega (arith, dataSymbol-below k r c j l m, ap₂ (λ (a b : ℕ). a * b) e f, dataSymbols-to family h)
+module _ (family : Family) (h : listed family ≡ true) (s : ℕ) where
+  abbrev layout : Layout
+  layout = familyLayout family
 
+  positive : zero < familyHeight family
+  positive = listed-bounds family h .height-from
+
+  -- Its disk is one of the array's
+  pub disk-of-symbol : s < symbolsOf (familyLayout family) → diskOf (familyLayout family) s < dataDisks family + parityDisks family
+  disk-of-symbol l = disk-of-below layout positive s l
+
+  -- It stands at or behind the first symbol of its disk, fewer than r rows behind
+  pub first-of-symbol : firstSymbol (familyLayout family) (diskOf (familyLayout family) s) ≤ s
+  first-of-symbol = on-disk-between layout (diskOf layout s) s (on-own-disk layout positive s) .0
+
+  pub row-of-symbol : s - firstSymbol (familyLayout family) (diskOf (familyLayout family) s) < familyHeight family
+  row-of-symbol =
+      let strip = on-disk-between layout (diskOf layout s) s (on-own-disk layout positive s) in
+      omega (arith, strip, height-of-disk family (diskOf layout s))
+
+-- What the program computes of a symbol, and the row that follows
+module _ (family : Family) (s k disk row : ℕ) (e : k ≡ dataDisks family) (f : disk ≡ diskOf (familyLayout family) s)
+    (g : row ≡ s - firstSymbol (familyLayout family) (diskOf (familyLayout family) s)) where
   -- A symbol on a data disk has an identity row
-  pub familyRow-of-data-disk : (s : ℕ) → s / r < k → entry r (s / r) (s % r) ≡ familyRow family s
+  pub familyRow-of-data-disk : disk < k → entry family disk row ≡ familyRow family s
   unfolding familyRow diskRow
-  familyRow-of-data-disk s l =
-      ap (λ (q : ℕ). entry q (s / q) (s % q)) f
-      ∙ sym (simp (lt-ltb (s / familyHeight family) (dataDisks family) (rw (e, f) at l)))
+  familyRow-of-data-disk l =
+      ap₂ (entry family) f g ∙ sym (simp (lt-ltb (diskOf (familyLayout family) s) (dataDisks family) (rw (e, f) at l)))
 
   -- A symbol on a parity disk has a parity row
-  pub familyRow-of-parity-disk : (s : ℕ) → k ≤ s / r → parityRow family (s / r - k) (s % r) ≡ familyRow family s
+  pub familyRow-of-parity-disk : k ≤ disk → parityRow family (disk - k) row ≡ familyRow family s
   unfolding familyRow diskRow
-  familyRow-of-parity-disk s l =
-      ap₂ (λ (q d : ℕ). parityRow family (s / q - d) (s % q)) f e
-      ∙ sym (simp (le-ltb (s / familyHeight family) (dataDisks family) (rw (e, f) at l)))
+  familyRow-of-parity-disk l =
+      ap₂ (λ (d j : ℕ). parityRow family (d - k) j) f g
+      ∙ ap (λ (n : ℕ). parityRow family (diskOf (familyLayout family) s - n) (s - firstSymbol (familyLayout family) (diskOf (familyLayout family) s))) e
+      ∙ sym (simp (le-ltb (diskOf (familyLayout family) s) (dataDisks family) (rw (e, f) at l)))
 
 -- The code is its layout, K and the rows of all symbols
 pub familyCode-of-parts : (family : Family) (layout : Layout) (symbols count reached : ℕ) (rows : List ℕ) → layout ≡ familyLayout family
     → symbols ≡ symbolsOf layout → count ≡ dataSymbols family → reached ≤ symbols → symbols ≤ reached
     → rows ≡ rowsOf reached (familyRow family)
-    → _≡_ {A = Code} record { layout = layout; data_symbols = count; rows = rows } (familyCode family)
+    → _≡_ {A = LinearCode} record { layout = layout; data_symbols = count; rows = rows } (familyCode family)
 unfolding familyCode
 familyCode-of-parts family layout symbols count reached rows e f g a b h =
     let end : reached ≡ symbolsOf (familyLayout family) = omega (arith, f ∙ ap symbolsOf e) in

@@ -3,71 +3,11 @@ use mathlib.Core.Bool.{Bool, cond, _&&_, _||_}
 use Prim.Native.Nat.{ℕ, zero, suc, _+_, _-_, _*_, _/_, _%_, _^_}
 use lib.Bits.{bitXor}
 use lib.Dec.{eqb, leb, ltb}
-use Rattle.codes.specs.Codes.{rowsOf}
-use Rattle.codes.specs.Layouts.{symbolsOf}
-use Rattle.codes.specs.declared.Code.{Code}
+use Rattle.codes.specs.Codes.{LinearCode, rowsOf}
+use Rattle.codes.specs.Layouts.{symbolsOf, firstSymbol, diskOf}
 use Rattle.codes.specs.declared.Layout.{Layout}
 use Rattle.family_codes.specs.declared.Family.{Family}
 use Rattle.family_codes.specs.declared.Family.the-variants.{SingleParity, Liberation, RowDiagonal}
-
--- ------------------------------------------------------------------
--- Sums
-
--- The XOR of a term for each number below a count
-unfoldable pub sumOver : ℕ → (ℕ → ℕ) → ℕ
-sumOver zero term = 0
-sumOver (suc count) term = bitXor (sumOver count term) (term count)
-
--- Data disk c, row j is data symbol c × r + j with an identity row: its one bit
-abbrev pub dataSymbol : ℕ → ℕ → ℕ → ℕ
-dataSymbol r c j = c * r + j
-
-unfoldable pub unit : ℕ → ℕ
-unit symbol = 2 ^ symbol
-
--- Row j of data disk c, as a sum takes it
-abbrev pub entry : ℕ → ℕ → ℕ → ℕ
-entry r c j = unit (dataSymbol r c j)
-
--- ------------------------------------------------------------------
--- Parities: row i, over k data disks of r rows
-
--- Row parity: the XOR of row i
-abbrev pub rowParity : ℕ → ℕ → ℕ → ℕ
-rowParity k r i = sumOver k (λ c. entry r c i)
-
--- Liberation: Q row i takes row (i + c) mod w of each disk c
-abbrev pub liberationDiagonal : ℕ → ℕ → ℕ → ℕ
-liberationDiagonal w k i = sumOver k (λ c. entry w c ((i + c) % w))
-
--- y = c × (w − 1) / 2 mod w
-abbrev pub extraRow : ℕ → ℕ → ℕ
-extraRow w c = c * (w - 1) / 2 % w
-
--- For each c from 1, Q row y takes row (y + c − 1) mod w of disk c besides
-unfoldable pub extraEntry : ℕ → ℕ → ℕ → ℕ
-extraEntry w i c = cond (leb 1 c && eqb (extraRow w c) i) (entry w c ((extraRow w c + c - 1) % w)) 0
-
--- .. of all disks
-abbrev pub liberationExtra : ℕ → ℕ → ℕ → ℕ
-liberationExtra w k i = sumOver k (λ c. extraEntry w i c)
-
--- Q row i
-abbrev pub liberationQ : ℕ → ℕ → ℕ → ℕ
-liberationQ w k i = bitXor (liberationDiagonal w k i) (liberationExtra w k i)
-
--- Row-diagonal: Q row i takes, of each data disk c, the row j below p − 1 with j + c = i mod p, if there is one.
--- What it takes of row j
-unfoldable pub diagonalEntry : ℕ → ℕ → ℕ → ℕ → ℕ
-diagonalEntry p i c j = cond (eqb ((j + c) % p) i) (entry (p - 1) c j) 0
-
--- .. of disk c
-abbrev pub diagonalOf : ℕ → ℕ → ℕ → ℕ
-diagonalOf p i c = sumOver (p - 1) (λ j. diagonalEntry p i c j)
-
--- Q row i: the sums run over the data disks
-abbrev pub rowDiagonalQ : ℕ → ℕ → ℕ
-rowDiagonalQ p i = sumOver (p - 1) (λ c. diagonalOf p i c)
 
 -- ------------------------------------------------------------------
 -- The array of a family
@@ -90,31 +30,86 @@ parityDisks (SingleParity k r) = 1
 parityDisks (Liberation w k) = 2
 parityDisks (RowDiagonal p) = 2
 
--- Row i of a parity disk, counted from 0: P, which is row parity, then Q
+-- n disks of r symbols each: the data disks; parity disks follow
+abbrev pub familyLayout : Family → Layout
+familyLayout family = record { disks = dataDisks family + parityDisks family; height = familyHeight family }
+
+-- K, the number of data symbols: those before the first parity disk
+abbrev pub dataSymbols : Family → ℕ
+dataSymbols family = firstSymbol (familyLayout family) (dataDisks family)
+
+-- ------------------------------------------------------------------
+-- What a row takes of a disk, as a row of the generator matrix
+
+-- An identity row: the one bit of a data symbol
+unfoldable pub unit : ℕ → ℕ
+unit symbol = 2 ^ symbol
+
+-- Data disk c, row j is data symbol c × r + j with an identity row
+abbrev pub entry : Family → ℕ → ℕ → ℕ
+entry family c j = unit (firstSymbol (familyLayout family) c + j)
+
+-- Liberation: Q row i takes row (i + c) mod w of each disk c.
+abbrev pub liberationRow : ℕ → ℕ → ℕ → ℕ
+liberationRow w i c = (i + c) % w
+
+-- For each c from 1, with y = c × (w − 1) / 2 mod w, ..
+abbrev pub extraRow : ℕ → ℕ → ℕ
+extraRow w c = c * (w - 1) / 2 % w
+
+-- .. Q row y takes row (y + c − 1) mod w of disk c besides
+unfoldable pub extraEntry : Family → ℕ → ℕ → ℕ → ℕ
+extraEntry family w i c = cond (leb 1 c && eqb (extraRow w c) i) (entry family c ((extraRow w c + c - 1) % w)) 0
+
+-- Both
+abbrev pub liberationEntry : Family → ℕ → ℕ → ℕ → ℕ
+liberationEntry family w i c = bitXor (entry family c (liberationRow w i c)) (extraEntry family w i c)
+
+-- Row-diagonal: Q row i takes, of each data disk c, the row j .. with j + c = i mod p, ..
+abbrev pub diagonalRow : ℕ → ℕ → ℕ → ℕ
+diagonalRow p i c = (i + p - c) % p
+
+-- .. below p − 1 .., if there is one: no other row below p lies on the diagonal
+unfoldable pub diagonalEntry : Family → ℕ → ℕ → ℕ → ℕ
+diagonalEntry family p i c = cond (ltb (diagonalRow p i c) (p - 1)) (entry family c (diagonalRow p i c)) 0
+
+-- What Q row i takes of disk c. Single parity has no Q
+abbrev pub qEntry : Family → ℕ → ℕ → ℕ
+qEntry (SingleParity k r) i c = 0
+qEntry (Liberation w k) i c = liberationEntry (Liberation w k) w i c
+qEntry (RowDiagonal p) i c = diagonalEntry (RowDiagonal p) p i c
+
+-- What row i of a parity disk, counted from 0, takes of disk c. P is row parity: it takes row i. Q follows
+unfoldable pub entryOf : Family → ℕ → ℕ → ℕ → ℕ
+entryOf family parity i c = cond (eqb parity 0) (entry family c i) (qEntry family i c)
+
+-- ------------------------------------------------------------------
+-- The code of a family
+
+-- The XOR of a term for each number below a count
+unfoldable pub sumOver : ℕ → (ℕ → ℕ) → ℕ
+sumOver zero term = 0
+sumOver (suc count) term = bitXor (sumOver count term) (term count)
+
+-- The sums run over the data disks
+abbrev pub summedDisks : Family → ℕ → ℕ
+summedDisks family parity = dataDisks family
+
+-- Row i of a parity disk, counted from 0
 abbrev pub parityRow : Family → ℕ → ℕ → ℕ
-parityRow (SingleParity k r) parity i = rowParity k r i
-parityRow (Liberation w k) parity i = cond (eqb parity 0) (rowParity k w i) (liberationQ w k i)
-parityRow (RowDiagonal p) parity i = cond (eqb parity 0) (rowParity (p - 1) (p - 1) i) (rowDiagonalQ p i)
+parityRow family parity i = sumOver (summedDisks family parity) (entryOf family parity i)
 
 -- Row j of a disk in the generator matrix: identity rows on the data disks; parity disks follow
 unfoldable pub diskRow : Family → ℕ → ℕ → ℕ
 diskRow family disk j =
-    cond (ltb disk (dataDisks family)) (entry (familyHeight family) disk j) (parityRow family (disk - dataDisks family) j)
+    cond (ltb disk (dataDisks family)) (entry family disk j) (parityRow family (disk - dataDisks family) j)
 
--- The row of symbol s, where s = disk × r + row
+-- The row of symbol s: the one of its disk that stands so far behind the disk's first symbol
 unfoldable pub familyRow : Family → ℕ → ℕ
-familyRow family s = diskRow family (s / familyHeight family) (s % familyHeight family)
+familyRow family s =
+    diskRow family (diskOf (familyLayout family) s) (s - firstSymbol (familyLayout family) (diskOf (familyLayout family) s))
 
--- n disks of r symbols each
-abbrev pub familyLayout : Family → Layout
-familyLayout family = record { disks = dataDisks family + parityDisks family; height = familyHeight family }
-
--- K, the number of data symbols
-abbrev pub dataSymbols : Family → ℕ
-dataSymbols family = dataDisks family * familyHeight family
-
--- The code of a family
-unfoldable pub familyCode : Family → Code
+unfoldable pub familyCode : Family → LinearCode
 familyCode family =
     record {
       layout = familyLayout family;

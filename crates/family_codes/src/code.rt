@@ -2,41 +2,49 @@
 ghost use mathlib.Core.Path.{_≡_};
 ghost use mathlib.Core.Bool.{true};
 ghost use Prim.Native.Nat.{_<_};
-ghost use Rattle.family_codes.specs.Families.{listed, familyHeight, parityRow, familyRow, familyCode};
+ghost use Rattle.bits.specs.Numerals.{numeral};
+ghost use Rattle.codes.specs.Codes.{linear};
+ghost use Rattle.codes.specs.Layouts.{symbolsOf};
+ghost use Rattle.family_codes.specs.Families.{listed, familyHeight, familyLayout, parityRow, familyRow, familyCode};
 use super::Family;
-use super::liberation;
+use super::entries::entry_of;
+use super::entries::identity_row;
+use super::entries::summed_disks;
 use super::listed::data_disks_of;
-use super::listed::height_of;
 use super::listed::layout_of;
-use super::row_diagonal;
-use super::rows::identity_row;
-use super::rows::row_parity;
 use bits::BitSet;
+use bits::empty;
+use bits::empty_sets;
+use bits::sum;
 use codes::Code;
 
 // Row `row` of a parity disk, counted from 0.
 fn parity_row(family: Family, parity: usize, row: usize) -> BitSet
     requires { ⌜ (listed family ≡ true) × (row < familyHeight family) ⌝ }
-    ensures { λ r. ⌜ r ≡ parityRow family parity row ⌝ }
+    ensures { λ r. ⌜ numeral r ≡ parityRow family parity row ⌝ }
 {
-    match family {
-        Family::SingleParity { data_disks, rows } => row_parity(data_disks, rows, row),
-        Family::Liberation { w, data_disks } => liberation::parity_row(w, data_disks, parity, row),
-        Family::RowDiagonal { p } => row_diagonal::parity_row(p, parity, row),
+    let disks = summed_disks(family, parity);
+    let mut total = empty();
+    let mut disk = 0;
+    while disk < disks {
+        let next = entry_of(family, parity, row, disk);
+        total = sum(total, next);
+        disk += 1;
     }
+    total
 }
 
 // The row of a symbol.
 fn row_of(family: Family, symbol: usize) -> BitSet
-    requires { ⌜ listed family ≡ true ⌝ }
-    ensures { λ r. ⌜ r ≡ familyRow family symbol ⌝ }
+    requires { ⌜ (listed family ≡ true) × (symbol < symbolsOf (familyLayout family)) ⌝ }
+    ensures { λ r. ⌜ numeral r ≡ familyRow family symbol ⌝ }
 {
+    let layout = layout_of(family);
     let data_disks = data_disks_of(family);
-    let height = height_of(family);
-    let disk = symbol / height;
-    let row = symbol % height;
+    let disk = layout.disk_of(symbol);
+    let row = symbol - layout.first_symbol(disk);
     if disk < data_disks {
-        return identity_row(height, disk, row);
+        return identity_row(family, disk, row);
     }
     parity_row(family, disk - data_disks, row)
 }
@@ -44,12 +52,12 @@ fn row_of(family: Family, symbol: usize) -> BitSet
 // The whole code.
 pub fn code_of(family: Family) -> Code
     requires { ⌜ listed family ≡ true ⌝ }
-    ensures { λ r. ⌜ r ≡ familyCode family ⌝ }
+    ensures { λ r. ⌜ linear r ≡ familyCode family ⌝ }
 {
     let layout = layout_of(family);
     let symbols = layout.symbols();
-    let data_symbols = data_disks_of(family) * height_of(family);
-    let mut rows = [0; 64];
+    let data_symbols = layout.first_symbol(data_disks_of(family));
+    let mut rows = empty_sets();
     let mut symbol = 0;
     while symbol < symbols {
         rows[symbol] = row_of(family, symbol);

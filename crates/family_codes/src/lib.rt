@@ -1,8 +1,6 @@
 // Families of codes that can be asked for by name: which parameters are listed, and the code of each.
 pub mod listed; // listed.rt: the parameters that refusal 36 lets through, and what follows from them
-mod rows; // rows.rt: identity rows and row parity
-mod liberation; // liberation.rt: Liberation's parities
-mod row_diagonal; // row_diagonal.rt: row-diagonal's parities
+mod entries; // entries.rt: what a row of the generator matrix takes of a disk
 pub mod code; // code.rt: a family's generator matrix
 
 // A family and its parameters, as document 01 lists them.

@@ -75,7 +75,7 @@ pub fn data_disks_of(family: Family) -> usize
 }
 
 // r, the rows of a disk.
-pub fn height_of(family: Family) -> usize
+fn height_of(family: Family) -> usize
     requires { ⌜ listed family ≡ true ⌝ }
     ensures { λ r. ⌜ r ≡ familyHeight family ⌝ }
 {

@@ -1,64 +1,71 @@
--- `code::parity_row` meets its contract, family by family. Assumes nothing.
-use mathlib.Core.Path.{sym, ap, _∙_}
+-- `code::parity_row` meets its contract. The invariant: the sum over the disks passed. Assumes nothing.
+use mathlib.Core.Path.{_≡_}
+use Prim.Native.Nat.{_-_, _≤_}
 use native.Mathlib.Omega.{arith}
-use Rattle.family_codes.specs.Families.{listed, familyHeight, parityRow}
-use Rattle.family_codes.specs.declared.Family.{Family}
-use Rattle.family_codes.proofs.FamilyLaws.{dataSymbols-to}
+use Rattle.bits.specs.Numerals.{numeral}
+use Rattle.family_codes.specs.Families.{sumOver, entryOf, summedDisks}
+use Rattle.family_codes.proofs.FamilyLaws.{sumOver-turn, sumOver-done}
 use Rattle.family_codes.proofs.code.parity_row.Statement.{statement}
 use Rattle.family_codes.proofs.code.parity_row.Tie as tie
 
-enum-known-family : tie.Need-enum-known-family
-enum-known-family c = c .match .keys1
+abbrev Inv-loop : tie.InvT-loop
+Inv-loop family parity row disks total₀ disk₀ total disk =
+    (disk ≤ disks) × (numeral total ≡ sumOver disk (entryOf family parity row))
 
-row-parity-requires : tie.Need-row-parity-requires
-row-parity-requires c κs =
-    let e = c .before .family .given .1 in
-    let start = c .before .before .before in
-    (dataSymbols-to _ (sym (ap listed e) ∙ start .pre .0), omega (arith, start .pre .1, ap familyHeight e))
+abbrev μ-loop : tie.MeasureT-loop
+μ-loop family parity row disks total₀ disk₀ total disk = disks - disk
 
-enum-known-family-2 : tie.Need-enum-known-family-2
-enum-known-family-2 c = c .match .keys2
+summed-disks-requires : tie.Need-summed-disks-requires Inv-loop μ-loop
+summed-disks-requires c κs = c .pre .0
 
-parity-row-requires : tie.Need-parity-row-requires
-parity-row-requires c κs =
-    let e = c .before .family2 .given .1 in
-    let start = c .before .before .before in
-    (sym (ap listed e) ∙ start .pre .0, omega (arith, start .pre .1, ap familyHeight e))
+empty-requires : tie.Need-empty-requires Inv-loop μ-loop
+empty-requires c κs = tt
 
-enum-known-family-3 : tie.Need-enum-known-family-3
-enum-known-family-3 c = c .match .keys3
+loop-holds : tie.Need-loop-holds Inv-loop μ-loop
+unfolding sumOver
+loop-holds c = (omega arith, c .empty .ensures)
 
-parity-row-requires-2 : tie.Need-parity-row-requires-2
-parity-row-requires-2 c κs =
-    let e = c .before .family3 .given .1 in
-    let start = c .before .before .before in
-    (sym (ap listed e) ∙ start .pre .0, omega (arith, start .pre .1, ap familyHeight e))
+entry-of-requires : tie.Need-entry-of-requires Inv-loop μ-loop
+entry-of-requires c κs =
+    let start = c .before .before .before .before in
+    (start .pre .0, start .pre .1, omega (arith, c .loop-test .taken, c .before .before .before .summed-disks .ensures))
 
-returns : tie.Need-returns
+sum-requires : tie.Need-sum-requires Inv-loop μ-loop
+sum-requires c κs = tt
+
+add-disk : tie.Need-add-disk Inv-loop μ-loop
+add-disk c = omega arith
+
+loop-less : tie.Need-loop-less Inv-loop μ-loop
+loop-less c = omega arith
+
+loop-again : tie.Need-loop-again Inv-loop μ-loop
+loop-again c =
+    let turn = c .before .before .before in
+    let a = turn .before .before .before .args in
+    let term = entryOf (a .family) (a .parity) (a .row) in
+    (omega arith, sumOver-turn (turn .loop .disk) term _ _ _ (turn .loop .inv .1) (c .before .entry-of .ensures) (c .sum .ensures))
+
+returns : tie.Need-returns Inv-loop μ-loop
 returns c =
-    let a = c .before .before .before .before .args in
-    c .row-parity .ensures ∙ sym (ap (λ (family : Family). parityRow family (a .parity) (a .row)) (c .before .before .family .given .1))
-
-returns-2 : tie.Need-returns-2
-returns-2 c =
-    let a = c .before .before .before .before .args in
-    c .parity-row .ensures ∙ sym (ap (λ (family : Family). parityRow family (a .parity) (a .row)) (c .before .before .family2 .given .1))
-
-returns-3 : tie.Need-returns-3
-returns-3 c =
-    let a = c .before .before .before .before .args in
-    c .parity-row2 .ensures ∙ sym (ap (λ (family : Family). parityRow family (a .parity) (a .row)) (c .before .before .family3 .given .1))
+    let end = c .before .loop in
+    let summed = c .before .before .before in
+    let a = summed .before .args in
+    let disks : summed .summed-disks .result ≡ summedDisks (a .family) (a .parity) = summed .summed-disks .ensures in
+    sumOver-done (summedDisks (a .family) (a .parity)) (end .disk) (entryOf (a .family) (a .parity) (a .row)) _ (omega arith) (omega arith) (end .inv .1)
 
 pub parity-row-spec : {M : Type 1} → statement M
 parity-row-spec =
     tie.close
     (tie.spec
-    enum-known-family
-    row-parity-requires
-    enum-known-family-2
-    parity-row-requires
-    enum-known-family-3
-    parity-row-requires-2
-    returns
-    returns-2
-    returns-3)
+    Inv-loop
+    μ-loop
+    summed-disks-requires
+    empty-requires
+    loop-holds
+    entry-of-requires
+    sum-requires
+    add-disk
+    loop-less
+    loop-again
+    returns)
