@@ -2,20 +2,20 @@
 use mathlib.Core.Path.{_≡_, refl, sym, ap, ap₂, _∙_}
 use mathlib.Core.Bool.{Bool, true, false, cond}
 use mathlib.Core.List.{List, [], _∷_}
-use Prim.Native.Nat.{ℕ, zero, suc, _+_, _<_}
+use Prim.Native.Nat.{ℕ, zero, suc, _+_, _≤_, _<_}
 use native.Mathlib.Numerals.{add-one}
 use native.Mathlib.Omega.{arith}
 use borrow.Author.Tests.{eqb-true}
 use lib.Bits.{bitXor}
 use lib.Dec.{eqb, eqb·suc-zero}
 use lib.ListN.{length, getD, set, drop, length-map}
-use lib.Seq.{getD-drop}
+use lib.Seq.{getD-drop, ext-getD}
 use Rattle.bits.specs.BitSets.{overlap}
 use Rattle.gf2.specs.InnerElimination.{pivotFor, reducePattern, reducePatterns}
 use Rattle.bits.proofs.Booleans.{bool-cases}
 use Rattle.gf2.proofs.EliminationLaws.{getD-reducePatterns}
-use Rattle.bits.proofs.OverlapLaws.{even-if-not-odd, overlap-zero-left}
-use Rattle.gf2.proofs.StoreLaws.{overwritten, overwritten-next, overwritten-more, overwritten-kept, overwritten-enough}
+use Rattle.bits.proofs.OverlapLaws.{even-if-not-odd, overlap-zero-left, overlap-zero-right}
+use Rattle.bits.proofs.StoreLaws.{overwritten, overwritten-next, overwritten-more, overwritten-kept, overwritten-enough}
 use Rattle.elimination.specs.InnerPatterns.{ZeroBehind, firstNonempty}
 use Rattle.elimination.proofs.PatternLaws.{reducePattern-even, reducePattern-odd, reducePatterns-zero-behind}
 
@@ -84,6 +84,12 @@ length-reducePatterns : (patterns : List ℕ) (row : ℕ) → length patterns �
 unfolding reducePatterns
 length-reducePatterns patterns row = sym (length-map patterns (reducePattern (pivotFor patterns row) row))
 
+-- An empty row changes no pattern
+pub reducePatterns-of-empty : (patterns : List ℕ) → reducePatterns patterns 0 ≡ patterns
+reducePatterns-of-empty patterns =
+    ext-getD 0 (reducePatterns patterns 0) patterns (sym (length-reducePatterns patterns 0))
+    (λ i h. getD-reducePatterns patterns 0 i ∙ reducePattern-even (pivotFor patterns 0) 0 (getD patterns i 0) (overlap-zero-right (getD patterns i 0)))
+
 -- The pass has come to pattern i. The row's pivot is the one found or, where none is, to be found from i on; the patterns before i are reduced
 pub record PassedTo (patterns : List ℕ) (row i pivot : ℕ) (reduced : List ℕ) : Type 0 where
   pub pivot-ahead : firstNonempty pivot (pivotFor (drop i patterns) row) ≡ pivotFor patterns row
@@ -97,11 +103,15 @@ module _ {patterns : List ℕ} {row i pivot : ℕ} {reduced : List ℕ} (within 
   within-reduced : i < length (reducePatterns patterns row)
   within-reduced = omega (arith, length-reducePatterns patterns row)
 
+  -- The reduced patterns take the places of the others
+  room : length (reducePatterns patterns row) ≤ length patterns
+  room = omega (arith, length-reducePatterns patterns row)
+
   -- The next pattern is not reduced yet
   next-pattern : getD reduced i 0 ≡ getD patterns i 0
   next-pattern =
       ap (λ (l : List ℕ). getD l i 0) (passed .stored)
-      ∙ overwritten-next patterns (reducePatterns patterns row) i (length-reducePatterns patterns row) within-reduced
+      ∙ overwritten-next patterns (reducePatterns patterns row) room i within-reduced
 
   next-overlap : eqb (overlap (getD patterns i 0) row) 1 ≡ eqb (overlap (getD reduced i 0) row) 1
   next-overlap = ap (λ (e : ℕ). eqb (overlap e row) 1) (sym next-pattern)
@@ -119,7 +129,7 @@ module _ {patterns : List ℕ} {row i pivot : ℕ} {reduced : List ℕ} (within 
             ∙ taken-is-pivot;
         stored =
             is-reduced′
-            ∙ overwritten-more patterns (reducePatterns patterns row) reduced i sum (length-reducePatterns patterns row) within-reduced (passed .stored)
+            ∙ overwritten-more patterns (reducePatterns patterns row) room reduced i sum within-reduced (passed .stored)
             (is-sum
             ∙ ap (bitXor (getD reduced i 0)) taken-is-pivot
             ∙ sym (reducePattern-odd (pivotFor patterns row) row (getD reduced i 0) is-odd)
@@ -142,7 +152,7 @@ module _ {patterns : List ℕ} {row i pivot : ℕ} {reduced : List ℕ} (within 
         pivot-ahead = ap₂ firstNonempty is-pivot′ (sym (pivotFor-passes patterns row i (next-overlap ∙ even))) ∙ passed .pivot-ahead;
         stored =
             is-reduced′
-            ∙ overwritten-kept patterns (reducePatterns patterns row) reduced i (length-reducePatterns patterns row) within-reduced (passed .stored)
+            ∙ overwritten-kept patterns (reducePatterns patterns row) room reduced i within-reduced (passed .stored)
             (getD-reducePatterns patterns row i
             ∙ reducePattern-even (pivotFor patterns row) row (getD patterns i 0) (even-if-not-odd (getD patterns i 0) row (next-overlap ∙ even)));
       }
@@ -152,8 +162,8 @@ pub passed-all : {count : ℕ} {patterns : List ℕ} {row i pivot : ℕ} {reduce
     → PassedTo patterns row i pivot reduced → (reduced ≡ reducePatterns patterns row) × (pivot ≡ pivotFor patterns row)
 passed-all {count} {patterns} {row} {i} {pivot} {reduced} zero-behind all passed = (
   overwritten-enough patterns (reducePatterns patterns row) reduced count (length-reducePatterns patterns row)
-      (λ j h. reducePatterns-zero-behind count patterns row zero-behind j h ∙ sym (zero-behind j h))
-      (passed .stored ∙ ap (overwritten patterns (reducePatterns patterns row)) all),
+      (passed .stored ∙ ap (overwritten patterns (reducePatterns patterns row)) all)
+      (λ j h. reducePatterns-zero-behind count patterns row zero-behind j h ∙ sym (zero-behind j h)),
   sym (firstNonempty-empty pivot)
       ∙ ap (firstNonempty pivot) (sym (pivotFor-behind count patterns row zero-behind) ∙ ap (λ (n : ℕ). pivotFor (drop n patterns) row) (sym all))
       ∙ passed .pivot-ahead,

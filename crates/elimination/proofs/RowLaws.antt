@@ -11,8 +11,7 @@ use lib.Bits.{bitXor, xor-zero-r}
 use lib.Dec.{eqb}
 use lib.ListN.{length, getD, set, take, drop, drop-of-length-le}
 use lib.Seq.{drop-cons, append-snoc, take-suc-set, getD-take, length-take-le}
-use Rattle.bits.specs.BitSets.{with, overlap}
-use Rattle.bits.specs.BitSets.{scale}
+use Rattle.bits.specs.BitSets.{with, overlap, scale}
 use Rattle.gf2.specs.InnerElimination.{pivotFor, reduceRow, reducePatterns, remaining, pivots, backSubstitute, residue}
 use Rattle.gf2.proofs.EliminationLaws.{residue-step, residue-of-no-rows}
 use Rattle.bits.proofs.OverlapLaws.{even-if-not-odd}

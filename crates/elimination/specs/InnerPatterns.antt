@@ -1,15 +1,16 @@
--- The patterns of elimination as an array of 64 holds them.
+-- The patterns of elimination as an array holds them.
 use mathlib.Core.Path.{_≡_}
 use mathlib.Core.Bool.{cond}
-use mathlib.Core.List.{List, _++_}
-use Prim.Native.Nat.{ℕ, _-_, _≤_}
+use mathlib.Core.List.{List}
+use Prim.Native.Nat.{ℕ, _≤_}
 use lib.Dec.{eqb}
-use lib.ListN.{getD, replicate}
+use lib.ListN.{getD}
+use Rattle.bits.specs.Numerals.{padded}
 use Rattle.gf2.specs.InnerElimination.{units}
 
 -- The unit patterns of K bits, and zeros behind them
-unfoldable pub unitPatterns : ℕ → List ℕ
-unitPatterns width = units width ++ replicate (64 - width) 0
+abbrev pub unitPatterns : ℕ → List ℕ
+unitPatterns width = padded (units width)
 
 -- From `count` on all patterns are zero
 abbrev pub ZeroBehind : ℕ → List ℕ → Type 0

@@ -4,12 +4,14 @@ use Prim.Native.Nat.{ℕ, _-_, _≤_}
 use native.Mathlib.Omega.{arith}
 use lib.ListN.{drop}
 use Rattle.gf2.specs.InnerElimination.{pivotFor}
+use Rattle.bits.specs.Numerals.{numeral, numerals}
+use Rattle.bits.proofs.NumeralLaws.{getD-numerals}
 use Rattle.elimination.proofs.PivotLaws.{pivotFor-passes, pivotFor-finds, pivotFor-behind}
 use Rattle.elimination.proofs.pivot_for.Statement.{statement}
 use Rattle.elimination.proofs.pivot_for.Tie as tie
 
 abbrev Inv-loop : tie.InvT-loop
-Inv-loop count row patterns i₀ i = (i ≤ count) × (pivotFor patterns row ≡ pivotFor (drop i patterns) row)
+Inv-loop count row patterns i₀ i = (i ≤ count) × (pivotFor (numerals patterns) (numeral row) ≡ pivotFor (drop i (numerals patterns)) (numeral row))
 
 abbrev μ-loop : tie.MeasureT-loop
 μ-loop count row patterns i₀ i = count - i
@@ -20,17 +22,19 @@ loop-holds c = (omega arith, refl)
 mul-pattern : tie.Need-mul-pattern Inv-loop μ-loop
 mul-pattern c = omega arith
 
-array-read-pattern : tie.Need-array-read-pattern Inv-loop μ-loop
-array-read-pattern c = omega arith
+array-copy-out-pattern : tie.Need-array-copy-out-pattern Inv-loop μ-loop
+array-copy-out-pattern c = omega arith
 
-odd-overlap-requires : tie.Need-odd-overlap-requires Inv-loop μ-loop
-odd-overlap-requires c κs = tt
+is-odd-requires : tie.Need-is-odd-requires Inv-loop μ-loop
+is-odd-requires c κs = tt
 
 returns : tie.Need-returns Inv-loop μ-loop
 returns c =
-    let args = c .before .before .before .before .args in
-    let loop = c .before .before .before .loop in
-    sym (loop .inv .1 ∙ pivotFor-finds (args .t1) (args .row) (loop .i) (sym (c .before .odd-overlap .ensures) ∙ c .if1 .taken))
+    let args = c .before .before .before .before .before .args in
+    let loop = c .before .before .before .before .loop in
+    let overlap = rw (getD-numerals (args .t1) (loop .i)) at (c .before .is-odd .ensures) in
+    getD-numerals (args .t1) (loop .i)
+    ∙ sym (loop .inv .1 ∙ pivotFor-finds (numerals (args .t1)) (numeral (args .row)) (loop .i) (sym overlap ∙ c .if1 .taken))
 
 add-i : tie.Need-add-i Inv-loop μ-loop
 add-i c = omega arith
@@ -40,18 +44,24 @@ loop-less c = omega arith
 
 loop-again : tie.Need-loop-again Inv-loop μ-loop
 loop-again c =
-    let args = c .before .before .before .before .args in
-    let loop = c .before .before .before .loop in
-    (omega arith, loop .inv .1 ∙ pivotFor-passes (args .t1) (args .row) (loop .i) (sym (c .before .odd-overlap .ensures) ∙ c .if1 .left))
+    let args = c .before .before .before .before .before .args in
+    let loop = c .before .before .before .before .loop in
+    let overlap = rw (getD-numerals (args .t1) (loop .i)) at (c .before .is-odd .ensures) in
+    (omega arith, loop .inv .1 ∙ pivotFor-passes (numerals (args .t1)) (numeral (args .row)) (loop .i) (sym overlap ∙ c .if1 .left))
+
+empty-requires : tie.Need-empty-requires Inv-loop μ-loop
+empty-requires c κs = tt
 
 returns-2 : tie.Need-returns-2 Inv-loop μ-loop
 returns-2 c =
-    let args = c .before .before .args in
-    let all : c .before .loop .i ≡ args .count = omega arith in
-    sym
-    (c .before .loop .inv .1
-    ∙ ap (λ (n : ℕ). pivotFor (drop n (args .t1)) (args .row)) all
-    ∙ pivotFor-behind (args .count) (args .t1) (args .row) (c .before .before .pre .1))
+    let args = c .before .before .before .args in
+    let loop = c .before .before .loop in
+    let all : loop .i ≡ args .count = omega arith in
+    c .empty .ensures
+    ∙ sym
+    (loop .inv .1
+    ∙ ap (λ (n : ℕ). pivotFor (drop n (numerals (args .t1))) (numeral (args .row))) all
+    ∙ pivotFor-behind (args .count) (numerals (args .t1)) (numeral (args .row)) (c .before .before .before .pre .1))
 
 pub pivot-for-spec : {M : Type 1} → statement M
 pivot-for-spec =
@@ -61,10 +71,11 @@ pivot-for-spec =
     μ-loop
     loop-holds
     mul-pattern
-    array-read-pattern
-    odd-overlap-requires
+    array-copy-out-pattern
+    is-odd-requires
     returns
     add-i
     loop-less
     loop-again
+    empty-requires
     returns-2)

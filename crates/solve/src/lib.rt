@@ -1,0 +1,117 @@
+// What the known symbols of an array say of the wanted ones: elimination over the known rows, a pattern that shows a wanted symbol out of reach,
+// and for each wanted symbol the subset of the known ones that sums to it.
+ghost use mathlib.Core.Path.{_≡_};
+ghost use Prim.Native.Nat.{_≤_};
+ghost use lib.ListN.{take};
+ghost use Rattle.bits.specs.BitSets.{has};
+ghost use Rattle.bits.specs.Lists.{symbolsIn};
+ghost use Rattle.bits.specs.Numerals.{setWidth, numeral, numerals, padded};
+ghost use Rattle.elimination.specs.InnerPatterns.{unitPatterns, ZeroBehind};
+ghost use Rattle.gf2.specs.InnerElimination.{remaining, pivots};
+ghost use Rattle.gf2.specs.InnerSubsetPlans.{survivors};
+ghost use Rattle.solve.specs.InnerSolving.{oddPattern, wantedSubsets};
+use bits::BitSet;
+use bits::BitSets;
+use bits::empty;
+use bits::empty_sets;
+use bits::has;
+use bits::is_empty;
+use elimination::back_substitute;
+use elimination::eliminate;
+use elimination::pivot_for;
+use elimination::unit_patterns;
+
+// Elimination over the known symbols: their rows, the pivot of each, and the patterns that remain.
+pub struct Elimination {
+    pub surviving: BitSets,
+    pub pivots: BitSets,
+    pub remaining: BitSets,
+}
+
+// The rows of the known symbols, and 0 for the others: symbols keep their numbers.
+fn surviving_rows(rows: BitSets, symbols: usize, known: BitSet) -> BitSets
+    requires { ⌜ symbols ≤ setWidth ⌝ }
+    ensures { λ r. ⌜ numerals r ≡ padded (survivors (has (numeral known)) (take symbols (numerals rows))) ⌝ }
+{
+    let mut surviving = empty_sets();
+    let mut s = 0;
+    while s < symbols {
+        if has(known, s) {
+            let row = rows[s];
+            surviving[s] = row;
+        }
+        s += 1;
+    }
+    surviving
+}
+
+// The known ones of the first `symbols` rows taken in, from the unit patterns of the data symbols on.
+pub fn eliminate_known(
+    rows: BitSets,
+    symbols: usize,
+    data_symbols: usize,
+    known: BitSet,
+) -> Elimination
+    requires { ⌜ (symbols ≤ setWidth) × (data_symbols ≤ setWidth) ⌝ }
+    ensures surviving { λ r. ⌜ take symbols (numerals (r .surviving)) ≡ survivors (has (numeral known)) (take symbols (numerals rows)) ⌝ }
+    ensures pivots { λ r. ⌜ take symbols (numerals (r .pivots)) ≡ pivots (unitPatterns data_symbols) (survivors (has (numeral known)) (take symbols (numerals rows))) ⌝ }
+    ensures remaining { λ r. ⌜ numerals (r .remaining) ≡ remaining (unitPatterns data_symbols) (survivors (has (numeral known)) (take symbols (numerals rows))) ⌝ }
+{
+    let surviving = surviving_rows(rows, symbols, known);
+    let units = unit_patterns(data_symbols);
+    let eliminated = eliminate(units, data_symbols, surviving, symbols);
+    let pivots = eliminated.pivots;
+    let remaining = eliminated.remaining;
+    Elimination {
+        surviving,
+        pivots,
+        remaining,
+    }
+}
+
+// The first of `count` patterns that overlaps a wanted row oddly, or the empty set.
+pub fn odd_pattern(
+    patterns: BitSets,
+    count: usize,
+    rows: BitSets,
+    symbols: usize,
+    wanted: BitSet,
+) -> BitSet
+    requires { ⌜ (count ≤ setWidth) × (symbols ≤ setWidth) × ZeroBehind count (numerals patterns) ⌝ }
+    ensures { λ r. ⌜ numeral r ≡ oddPattern (numerals patterns) (take symbols (numerals rows)) (symbolsIn (has (numeral wanted)) 0 symbols) ⌝ }
+{
+    let mut s = 0;
+    while s < symbols {
+        if has(wanted, s) {
+            let pattern = pivot_for(patterns, count, rows[s]);
+            if !is_empty(pattern) {
+                return pattern;
+            }
+        }
+        s += 1;
+    }
+    empty()
+}
+
+// For each wanted symbol the subset of the known ones that the pivots take out of its row.
+pub fn wanted_subsets(
+    pivots: BitSets,
+    surviving: BitSets,
+    rows: BitSets,
+    symbols: usize,
+    wanted: BitSet,
+) -> BitSets
+    requires { ⌜ symbols ≤ setWidth ⌝ }
+    ensures { λ r. ⌜ numerals r ≡ padded (wantedSubsets (take symbols (numerals pivots)) (take symbols (numerals surviving)) (take symbols (numerals rows)) symbols (has (numeral wanted))) ⌝ }
+{
+    let mut subsets = empty_sets();
+    let mut target = 0;
+    while target < symbols {
+        if has(wanted, target) {
+            let subset = back_substitute(pivots, surviving, symbols, rows[target]);
+            subsets[target] = subset;
+        }
+        target += 1;
+    }
+    subsets
+}
