@@ -1,0 +1,2 @@
+pub mod PlanSheets
+pub mod InnerPlanSheets

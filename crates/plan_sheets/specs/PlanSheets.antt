@@ -1,0 +1,102 @@
+-- The plan sheet (document 01, "The two sheets"; document 02, §3): one byte 6, then edition, n, r, K, failed disk, read count;
+-- in edition 2 one byte count and that many wanted symbols; two bytes step count, low byte first, then 3 bytes a step: kind, target, source.
+use mathlib.Core.Bool.{cond}
+use mathlib.Core.List.{List, [], _∷_, map}
+use Prim.Native.Nat.{ℕ, zero, suc, _+_, _*_}
+use lib.Dec.{eqb}
+use lib.ListN.{getD, take, drop}
+use Rattle.gf2.specs.declared.Step.{Step}
+use Rattle.gf2.specs.declared.Step.the-variants.{Clear, Copy, Add}
+use Rattle.sheets.specs.Bytes.{twoBytesAt}
+pub use Rattle.plan_sheets.specs.declared.head.PlanHead.{PlanHead}
+pub use Rattle.plan_sheets.specs.declared.head.Sections.{Sections}
+pub use Rattle.plan_sheets.specs.declared.step.SheetStep.{SheetStep}
+
+-- What a plan sheet holds; a plan of any length has any number of steps (document 01, "How tight the answers are")
+pub record Plan : Type 0 where
+  pub head : PlanHead
+  pub wanted : List ℕ
+  pub steps : List SheetStep
+
+-- Kind 0 is clear, kind 1 copy, kind 2 add
+abbrev pub stepOf : SheetStep → Step
+stepOf s = cond (eqb (s .kind) 0) (Clear (s .target)) (cond (eqb (s .kind) 1) (Copy (s .target) (s .source)) (Add (s .target) (s .source)))
+
+-- The steps of a plan
+abbrev pub stepsOf : Plan → List Step
+stepsOf plan = map stepOf (plan .steps)
+
+-- ------------------------------------------------------------------
+-- The head
+
+-- The first section
+abbrev pub headIn : List ℕ → PlanHead
+headIn sheet =
+    record {
+      count = getD sheet 0 0;
+      edition = getD sheet 1 0;
+      disks = getD sheet 2 0;
+      height = getD sheet 3 0;
+      data_symbols = getD sheet 4 0;
+      disk = getD sheet 5 0;
+      reads = getD sheet 6 0;
+    }
+
+-- Where the list of wanted symbols lies: edition 2 has so many listed behind their count, edition 1 has no list
+unfoldable pub sectionsFor : ℕ → ℕ → Sections
+sectionsFor edition listed = cond (eqb edition 2) (record { first = 8; count = listed }) (record { first = 7; count = 0 })
+
+abbrev pub sectionsIn : List ℕ → Sections
+sectionsIn sheet = sectionsFor (getD sheet 1 0) (getD sheet 7 0)
+
+-- The wanted symbols, as far as the sheet goes
+abbrev pub wantedAt : Sections → List ℕ → List ℕ
+wantedAt sections sheet = take (sections .count) (drop (sections .first) sheet)
+
+-- The step count stands behind the list, and the steps behind the step count
+abbrev pub stepsAt : Sections → ℕ
+stepsAt sections = sections .first + sections .count
+
+abbrev pub headLength : Sections → ℕ
+headLength sections = stepsAt sections + 2
+
+abbrev pub stepCountAt : Sections → List ℕ → ℕ
+stepCountAt sections sheet = twoBytesAt sheet (stepsAt sections)
+
+abbrev pub stepCount : List ℕ → ℕ
+stepCount sheet = stepCountAt (sectionsIn sheet) sheet
+
+-- ------------------------------------------------------------------
+-- The steps
+
+-- The length of so many steps
+abbrev pub stepsLength : ℕ → ℕ
+stepsLength steps = 3 * steps
+
+-- The length of a sheet of so many steps
+abbrev pub sheetLength : Sections → ℕ → ℕ
+sheetLength sections steps = headLength sections + stepsLength steps
+
+-- The step that 3 bytes begin with
+abbrev pub firstStep : List ℕ → SheetStep
+firstStep bytes = record { kind = getD bytes 0 0; target = getD bytes 1 0; source = getD bytes 2 0 }
+
+-- Step `number` of bytes that have steps alone
+abbrev pub stepAt : List ℕ → ℕ → SheetStep
+stepAt bytes number = firstStep (drop (stepsLength number) bytes)
+
+-- So many steps of 3 bytes
+unfoldable pub sheetSteps : ℕ → List ℕ → List SheetStep
+sheetSteps zero bytes = []
+sheetSteps (suc count) bytes = firstStep bytes ∷ sheetSteps count (drop 3 bytes)
+
+-- ------------------------------------------------------------------
+-- The plan of a sheet
+
+abbrev pub planIn : List ℕ → Plan
+planIn sheet =
+    record {
+      head = headIn sheet;
+      wanted = wantedAt (sectionsIn sheet) sheet;
+      steps = sheetSteps (stepCount sheet) (drop (headLength (sectionsIn sheet)) sheet);
+    }

@@ -1,3 +1,0 @@
-pub mod PlanSheetLaws
-pub mod SourceLaws
-pub mod StepsWrittenLaws
