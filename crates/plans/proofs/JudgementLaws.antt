@@ -1,7 +1,7 @@
 -- Demand 2 for a plan with any number of steps, in both directions: its verdict is fine exactly where it deserves acceptance. Assumes nothing.
 use mathlib.Core.Path.{_≡_, refl, sym, ap, ap₂, _∙_, subst}
 use mathlib.Core.Bool.{Bool, true, false, cond, not, _&&_, _||_, true≢false}
-use mathlib.Core.List.{List, [], _∷_, _++_, map, List·Memᴰ, List·Memᴰ·head, List·Memᴰ·tail}
+use mathlib.Core.List.{List, [], _∷_, _++_, map, List·Memᴰ·head, List·Memᴰ·tail}
 use mathlib.Core.Logic.{_⊎_, inl, inr, ⊎-elim}
 use Prim.Native.Nat.{ℕ, suc, _+_, _-_, _*_, _^_, _≤_, _<_}
 use native.Mathlib.Omega.{arith}
@@ -11,9 +11,8 @@ use lib.ListN.{length, getD, take, List·getD-eq-default}
 use lib.Pow.{pow-pos}
 use lib.Seq.{length-take-le, getD-take}
 use borrow.Author.Tests.{lt-ltb, le-ltb, ltb-true, ltb-false, eq-eqb, eqb-true, not-true, not-false}
-use Rattle.codes.specs.Codes.{symbols, matrix, WithinLimits}
+use Rattle.codes.specs.Codes.{LinearCode, symbols, matrix, WithinLimits}
 use Rattle.codes.specs.Layouts.{symbolsOf, firstSymbol, heightOf, onDisk}
-use Rattle.codes.specs.declared.Code.{Code}
 use Rattle.codes.specs.declared.Layout.{Layout}
 use Rattle.codes.proofs.LayoutLaws.{strip-within, onDisk-above, onDisk-before}
 use Rattle.gf2.specs.Plans.{run, Within, PlacesBelow, extend, UsesOnlyKnown, done, next, Accepted}
@@ -22,17 +21,19 @@ use Rattle.gf2.specs.Stripes.{Valid, runOnStripe, SameSymbols, RestoresStripes}
 use Rattle.bits.proofs.Booleans.{and-left, and-right, and-true-if-both}
 use Rattle.gf2.proofs.Columns.{length-runOnStripe}
 use Rattle.gf2.proofs.PlanLaws.{run-take}
-use Rattle.gf2.proofs.SearchLaws.{firstFrom-none, none-if-firstFrom-behind}
+use Rattle.bits.proofs.SearchLaws.{firstFrom-none, none-if-firstFrom-behind}
 use Rattle.gf2.proofs.StripeLaws.{usesOnlyKnown-names-below, accepted-restores-stripes, accepted-gives-stripe-back, accepted-depends-on-known, runOnStripe-keeps-unwritable, accepted-if-restores-stripes, restores-means-filled}
 use Rattle.lists.specs.Lists.{GoodList, listed}
 use Rattle.lists.proofs.ListLaws.{good-if-no-fault, no-fault-if-good, listed-passes}
 use Rattle.refusals.specs.Orders.{firstOf, ifFine, Outcome, Fine, Refused}
 use Rattle.refusals.specs.Refusals.{_at_}
 use Rattle.refusals.proofs.OrderLaws.{fine-means-none-holds, none-holds-means-fine, none-holds-join, none-holds-first, none-holds-second, refused-is-not-fine}
-use Rattle.plans.specs.Plans.{SheetStep, PlanHead, Plan, stepOf, stepsOf}
-use Rattle.plans.specs.Judgement.{lost, survives, headFaults, wantedOf, keptOf, leastWanted, wantedFaults, malformed, stepFaults, stepsVerdict, trueReadCount, neverFilled, endsWrong, lowestWanted, endFaults, SetsWithin, judgement, bodyVerdict, planVerdict}
+use Rattle.plan_sheets.specs.PlanSheets.{Plan, stepOf, stepsOf}
+use Rattle.plan_sheets.specs.declared.step.SheetStep.{SheetStep}
+use Rattle.plan_sheets.specs.declared.head.PlanHead.{PlanHead}
+use Rattle.plans.specs.Judgement.{lost, survives, headFaults, wantedOf, keptOf, leastWanted, wantedFaults, EachFormed, stepFaults, stepsVerdict, trueReadCount, neverFilled, endsWrong, lowestWanted, endFaults, SetsWithin, judgement, bodyVerdict, planVerdict}
 use Rattle.plans.specs.Demand2.{HeadFits, Deserves}
-use Rattle.plans.proofs.StepLaws.{target-stepOf}
+use Rattle.plan_sheets.proofs.ReadingLaws.{target-stepOf}
 
 -- ------------------------------------------------------------------
 -- Verdicts joined
@@ -67,7 +68,7 @@ edition-passes edition =
     ⊎-elim (ap (λ (e : ℕ). not (eqb e 1 || eqb e 2))) (ap (λ (e : ℕ). not (eqb e 1 || eqb e 2)))
 
 -- A head without a fault fits the code and the disk asked
-head-fits-if-fine : (code : Code) (disk : ℕ) (head : PlanHead) → firstOf (headFaults (code .layout) (code .data_symbols) disk head) ≡ Fine → HeadFits code disk head
+head-fits-if-fine : (code : LinearCode) (disk : ℕ) (head : PlanHead) → firstOf (headFaults (code .layout) (code .data_symbols) disk head) ≡ Fine → HeadFits code disk head
 head-fits-if-fine code disk head e =
     let none = fine-means-none-holds Fine (headFaults (code .layout) (code .data_symbols) disk head) e .1 in
     record {
@@ -80,7 +81,7 @@ head-fits-if-fine code disk head e =
     }
 
 -- A head that fits has no fault
-head-fine-if-fits : (code : Code) (disk : ℕ) (head : PlanHead) → HeadFits code disk head → firstOf (headFaults (code .layout) (code .data_symbols) disk head) ≡ Fine
+head-fine-if-fits : (code : LinearCode) (disk : ℕ) (head : PlanHead) → HeadFits code disk head → firstOf (headFaults (code .layout) (code .data_symbols) disk head) ≡ Fine
 head-fine-if-fits code disk head fits =
     let count = same-passes (fits .first-count) in
     let edition = edition-passes _ (fits .edition) in
@@ -93,10 +94,6 @@ head-fine-if-fits code disk head fits =
 
 -- ------------------------------------------------------------------
 -- The steps
-
--- Each step of the list is well formed
-abbrev pub EachFormed : ℕ → List SheetStep → Type 0
-EachFormed count steps = (s : SheetStep) → List·Memᴰ s steps → malformed count s ≡ false
 
 module _ (count : ℕ) (wanted : ℕ → Bool) where
   -- A fine verdict on the steps means that each is well formed
@@ -289,18 +286,18 @@ module _ (layout : Layout) (disk : ℕ) (disk-below : disk < layout .disks) wher
 -- The judgement
 
 -- What a plan wants, for a code and the loss of a disk
-abbrev pub wantedBy : Code → ℕ → Plan → ℕ → Bool
+abbrev pub wantedBy : LinearCode → ℕ → Plan → ℕ → Bool
 wantedBy code disk plan = wantedOf (code .layout) disk (plan .head .edition) (plan .wanted)
 
 -- gf2's acceptance of a plan's steps, for the matrix of a code and the loss of a disk
-abbrev pub AcceptedFor : Code → ℕ → Plan → Type 0
+abbrev pub AcceptedFor : LinearCode → ℕ → Plan → Type 0
 AcceptedFor code disk plan = Accepted (matrix code) (wantedBy code disk plan) (survives (code .layout) disk) (wantedBy code disk plan) (stepsOf plan)
 
 -- The rule for a plan's wanted symbols
-abbrev pub WantedGood : Code → ℕ → Plan → Type 0
+abbrev pub WantedGood : LinearCode → ℕ → Plan → Type 0
 WantedGood code disk plan = GoodList (leastWanted (plan .head .edition)) (heightOf (code .layout) disk) (lost (code .layout) disk) (plan .wanted)
 
-module _ (code : Code) (within : WithinLimits code) (disk : ℕ) (disk-below : disk < code .layout .disks) where
+module _ (code : LinearCode) (within : WithinLimits code) (disk : ℕ) (disk-below : disk < code .layout .disks) where
   -- The matrix has a row for each symbol
   pub length-matrix : length (matrix code) ≡ symbols code
   length-matrix = length-take-le (symbols code) (code .rows) (omega (arith, within .symbols-to, within .rows-held))

@@ -2,18 +2,19 @@
 -- 13 for the first count, 14, 15, 16, 23; then steps in order, in each 17, 18, 19; then 20 over all wanted symbols, 21 over all of them, 22.
 use mathlib.Core.Path.{_≡_}
 use mathlib.Core.Bool.{Bool, true, false, cond, not, _&&_, _||_}
-use mathlib.Core.List.{List, [], _∷_, _++_, map}
-use Prim.Native.Nat.{ℕ, zero, suc, _+_, _-_, _≤_, _<_}
+use mathlib.Core.List.{List, [], _∷_, _++_, map, List·Memᴰ}
+use Prim.Native.Nat.{ℕ, suc, _-_, _≤_}
 use lib.Dec.{eqb, leb, ltb}
 use lib.ListN.{getD}
-use Rattle.plans.specs.Plans.{SheetStep, PlanHead, Plan, stepOf}
+use Rattle.plan_sheets.specs.PlanSheets.{Plan, stepOf}
+use Rattle.plan_sheets.specs.declared.step.SheetStep.{SheetStep}
+use Rattle.plan_sheets.specs.declared.head.PlanHead.{PlanHead}
+use Rattle.codes.specs.Codes.{LinearCode}
 use Rattle.codes.specs.Layouts.{symbolsOf, firstSymbol, heightOf, onDisk}
 use Rattle.codes.specs.declared.Layout.{Layout}
-use Rattle.codes.specs.declared.Code.{Code}
-use Rattle.gf2.specs.Lists.{firstFrom}
-use Rattle.gf2.specs.Plans.{run, PlacesBelow, extend, ready, filledAfter}
+use Rattle.bits.specs.Lists.{firstFrom, countFrom}
+use Rattle.gf2.specs.Plans.{run, readByAny, PlacesBelow, extend, ready, filledAfter}
 use Rattle.gf2.specs.declared.Step.{Step}
-use Rattle.gf2.specs.declared.Step.the-variants.{Clear, Copy, Add}
 use Rattle.lists.specs.Lists.{listFaults, listed}
 use Rattle.refusals.specs.Orders.{Fault, _gets_, firstOf, ifFine, Outcome, Fine, Answer, answering}
 use Rattle.refusals.specs.Refusals.{_at_}
@@ -28,13 +29,6 @@ lost layout disk s = ltb s (symbolsOf layout) && onDisk layout disk s
 -- All others survive
 abbrev pub survives : Layout → ℕ → ℕ → Bool
 survives layout disk s = ltb s (symbolsOf layout) && not (onDisk layout disk s)
-
--- A disk of an array within the limits
-pub record DiskWithin (layout : Layout) (disk : ℕ) : Type 0 where
-  pub disk-below : disk < layout .disks
-  pub disks-to : layout .disks ≤ 64
-  pub height-to : layout .height ≤ 32
-  pub symbols-to : symbolsOf layout ≤ 64
 
 -- ------------------------------------------------------------------
 -- The head
@@ -74,6 +68,10 @@ abbrev pub malformed : ℕ → SheetStep → Bool
 malformed count s =
     ltb 2 (s .kind) || leb count (s .target) || leb count (s .source) || (eqb (s .kind) 0 && not (eqb (s .source) 0))
 
+-- Each step of a list is well formed
+abbrev pub EachFormed : ℕ → List SheetStep → Type 0
+EachFormed count steps = (s : SheetStep) → List·Memᴰ s steps → malformed count s ≡ false
+
 -- In each step 17, 18 (a target that isn't wanted), 19 (an unfilled place is used)
 abbrev pub stepFaults : ℕ → (ℕ → Bool) → (ℕ → Bool) → ℕ → SheetStep → List Fault
 stepFaults count wanted known number s =
@@ -96,25 +94,9 @@ stepsVerdict count wanted known number (s ∷ steps) =
 -- ------------------------------------------------------------------
 -- The end
 
--- Whether a step names a symbol as the source of a copy or an add; a clear has no source
-abbrev pub reads : ℕ → Step → Bool
-reads s (Clear t) = false
-reads s (Copy t source) = eqb source s
-reads s (Add t source) = eqb source s
-
--- Whether any step does
-unfoldable pub readByAny : ℕ → List Step → Bool
-readByAny s [] = false
-readByAny s (p ∷ steps) = reads s p || readByAny s steps
-
--- How many numbers below a bound pass a test
-unfoldable pub howMany : ℕ → (ℕ → Bool) → ℕ
-howMany zero test = 0
-howMany (suc bound) test = cond (test bound) 1 0 + howMany bound test
-
 -- The true read count: the distinct surviving symbols named as a source by any copy or add
 abbrev pub trueReadCount : ℕ → (ℕ → Bool) → List Step → ℕ
-trueReadCount count survives steps = howMany count (λ s. survives s && readByAny s steps)
+trueReadCount count survives steps = countFrom (λ s. survives s && readByAny s steps) 0 count
 
 -- A place that is never filled
 abbrev pub neverFilled : (ℕ → Bool) → List Step → ℕ → Bool
@@ -159,13 +141,13 @@ judgement rows count survives wanted origin steps stated =
     ifFine ran (firstOf (endFaults rows count survives wanted origin (map stepOf steps) stated)) ran
 
 -- What follows the head of a plan, judged by the sets of its disk and its list; places are rows of the disk
-unfoldable pub bodyVerdict : Code → ℕ → Plan → Outcome
+unfoldable pub bodyVerdict : LinearCode → ℕ → Plan → Outcome
 bodyVerdict code disk plan =
     let layout = code .layout in
     judgement (code .rows) (symbolsOf layout) (survives layout disk) (wantedOf layout disk (plan .head .edition) (plan .wanted)) (firstSymbol layout disk) (plan .steps) (plan .head .reads)
 
 -- Every rule of the check, the sheet's length and the step limit left aside: the head, 23, the steps and the end
-unfoldable pub planVerdict : Code → ℕ → Plan → Outcome
+unfoldable pub planVerdict : LinearCode → ℕ → Plan → Outcome
 planVerdict code disk plan =
     let layout = code .layout in
     let head = firstOf (headFaults layout (code .data_symbols) disk (plan .head) ++ wantedFaults layout disk (plan .head .edition) (plan .wanted)) in

@@ -3,8 +3,10 @@ ghost use mathlib.Core.Path.{_≡_};
 ghost use Prim.Native.Nat.{ℕ, _<_};
 ghost use lib.ListN.{length, getD};
 ghost use Rattle.codes.specs.Layouts.{symbolsOf, firstSymbol};
+ghost use Rattle.codes.specs.Codes.{DiskWithin};
 ghost use Rattle.bits.specs.BitSets.{has};
-ghost use Rattle.plans.specs.Judgement.{DiskWithin, lost, survives, wantedOf, leastWanted};
+ghost use Rattle.bits.specs.Numerals.{setWidth, numeral};
+ghost use Rattle.plans.specs.Judgement.{lost, survives, wantedOf, leastWanted};
 use bits::BitSet;
 use bits::below;
 use bits::sum;
@@ -23,8 +25,8 @@ pub struct Loss {
 pub fn loss_of_disk(layout: Layout, disk: usize) -> Loss
     requires { ⌜ DiskWithin layout disk ⌝ }
     ensures symbols { λ r. ⌜ r .symbols ≡ symbolsOf layout ⌝ }
-    ensures survivors { λ r. ⌜ ((s : ℕ) → has (r .survivors) s ≡ survives layout disk s) ⌝ }
-    ensures wanted { λ r. ⌜ ((s : ℕ) → has (r .wanted) s ≡ lost layout disk s) ⌝ }
+    ensures survivors { λ r. ⌜ ((s : ℕ) → has (numeral (r .survivors)) s ≡ survives layout disk s) ⌝ }
+    ensures wanted { λ r. ⌜ ((s : ℕ) → has (numeral (r .wanted)) s ≡ lost layout disk s) ⌝ }
     ensures origin { λ r. ⌜ r .origin ≡ firstSymbol layout disk ⌝ }
 {
     let symbols = layout.symbols();
@@ -42,17 +44,18 @@ pub fn loss_of_disk(layout: Layout, disk: usize) -> Loss
 
 // The loss of a disk as a plan sees it: the symbols of edition 2's list are wanted, or the whole disk.
 pub fn loss_of_plan(layout: Layout, disk: usize, edition: usize, list: &[u8]) -> Loss
-    requires { ⌜ DiskWithin layout disk × ((i : ℕ) → i < length (now list) → getD (now list) i 0 < 64) ⌝ }
+    requires { ⌜ DiskWithin layout disk × ((i : ℕ) → i < length (now list) → getD (now list) i 0 < setWidth) ⌝ }
     ensures symbols { λ r. ⌜ r .symbols ≡ symbolsOf layout ⌝ }
-    ensures survivors { λ r. ⌜ ((s : ℕ) → has (r .survivors) s ≡ survives layout disk s) ⌝ }
-    ensures wanted { λ r. ⌜ ((s : ℕ) → has (r .wanted) s ≡ wantedOf layout disk edition (now (list .entry)) s) ⌝ }
+    ensures survivors { λ r. ⌜ ((s : ℕ) → has (numeral (r .survivors)) s ≡ survives layout disk s) ⌝ }
+    ensures wanted { λ r. ⌜ ((s : ℕ) → has (numeral (r .wanted)) s ≡ wantedOf layout disk edition (now (list .entry)) s) ⌝ }
     ensures origin { λ r. ⌜ r .origin ≡ firstSymbol layout disk ⌝ }
 {
     let loss = loss_of_disk(layout, disk);
+    let survivors = loss.survivors;
     if edition == 2 {
         return Loss {
             symbols: loss.symbols,
-            survivors: loss.survivors,
+            survivors,
             wanted: set_of(list),
             origin: loss.origin,
         };

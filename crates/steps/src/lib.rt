@@ -1,23 +1,25 @@
 // The steps of a plan sheet: each read as a decoded step or a refusal, and run on the rows.
 ghost use mathlib.Core.Path.{_≡_};
-ghost use Prim.Native.Nat.{_*_, _≤_, _<_};
-ghost use lib.ListN.{drop};
+ghost use Prim.Native.Nat.{_≤_, _<_};
 ghost use Rattle.bits.specs.BitSets.{has};
+ghost use Rattle.bits.specs.Numerals.{setWidth, numeral, numerals};
 ghost use Rattle.gf2.specs.Plans.{target, ready, NamesBelow};
-ghost use Rattle.plans.specs.Plans.{stepAt, sheetSteps};
+ghost use Rattle.plan_sheets.specs.PlanSheets.{stepAt, sheetSteps};
 ghost use Rattle.plans.specs.Judgement.{malformed, stepReading};
-ghost use Rattle.plans.specs.InnerProgress.{sourceOf, valueOf, asStep, Progressed};
+ghost use Rattle.plans.specs.InnerProgress.{sourceOf, valueOf, asStep, reached, Progressed};
 ghost use Rattle.refusals.specs.Orders.{outcome, outcomeOf};
 use bits::BitSet;
+use bits::BitSets;
+use bits::empty;
 use bits::has;
 use bits::sum;
 use bits::with;
 use gf2::Step;
-use plans::steps::Progress;
-use plans::steps::SheetStep;
-use plans::steps::StepReading;
-use plans::steps::decoded;
-use plans::steps::step_at;
+use plan_sheets::step::SheetStep;
+use plan_sheets::step::decoded;
+use plan_sheets::step::step_at;
+use plans::progress::Progress;
+use plans::progress::StepReading;
 use refusals::Refusal;
 use refusals::Verdict;
 
@@ -42,8 +44,8 @@ fn malformed(step: SheetStep, symbols: usize) -> bool
 
 // Whether every place that the step uses is known.
 fn is_ready(step: Step, known: BitSet) -> bool
-    requires { ⌜ NamesBelow 64 step ⌝ }
-    ensures { λ r. ⌜ r ≡ ready step (has known) ⌝ }
+    requires { ⌜ NamesBelow setWidth step ⌝ }
+    ensures { λ r. ⌜ r ≡ ready step (has (numeral known)) ⌝ }
 {
     match step {
         Step::Clear { target: _ } => true,
@@ -60,8 +62,8 @@ fn judge_step(
     wanted: BitSet,
     known: BitSet,
 ) -> StepReading
-    requires { ⌜ symbols ≤ 64 ⌝ }
-    ensures { λ r. ⌜ asStep r ≡ stepReading symbols (has wanted) (has known) number «sheet_step» ⌝ }
+    requires { ⌜ symbols ≤ setWidth ⌝ }
+    ensures { λ r. ⌜ asStep r ≡ stepReading symbols (has (numeral wanted)) (has (numeral known)) number «sheet_step» ⌝ }
 {
     if malformed(sheet_step, symbols) {
         return StepReading::Refused(Refusal::MalformedStep { step: number });
@@ -84,8 +86,8 @@ fn read_step(
     wanted: BitSet,
     known: BitSet,
 ) -> StepReading
-    requires { ⌜ (symbols ≤ 64) × (number < 1024) ⌝ }
-    ensures { λ r. ⌜ asStep r ≡ stepReading symbols (has wanted) (has known) number (stepAt (drop (3 * number) (now (steps .entry)))) ⌝ }
+    requires { ⌜ (symbols ≤ setWidth) × (number < 1024) ⌝ }
+    ensures { λ r. ⌜ asStep r ≡ stepReading symbols (has (numeral wanted)) (has (numeral known)) number (stepAt (now (steps .entry)) number) ⌝ }
 {
     judge_step(step_at(steps, number), number, symbols, wanted, known)
 }
@@ -124,10 +126,10 @@ fn source_of(step: Step) -> usize
 
 // What a step makes of what its target held and its source holds.
 fn value_of(step: Step, old: BitSet, source: BitSet) -> BitSet
-    ensures { λ r. ⌜ r ≡ valueOf step old source ⌝ }
+    ensures { λ r. ⌜ numeral r ≡ valueOf step (numeral old) (numeral source) ⌝ }
 {
     match step {
-        Step::Clear { target: _ } => 0,
+        Step::Clear { target: _ } => empty(),
         Step::Copy {
             target: _,
             source: _,
@@ -142,19 +144,19 @@ fn value_of(step: Step, old: BitSet, source: BitSet) -> BitSet
 // Runs the steps of a sheet, given as its bytes from the first step on, on the rows; each is read against the places known by then. The
 // first faulty step ends the run.
 pub fn run_on_rows(
-    code_rows: [BitSet; 64],
+    code_rows: BitSets,
     symbols: usize,
     survivors: BitSet,
     wanted: BitSet,
     steps: &[u8],
     count: usize,
 ) -> Progress
-    requires { ⌜ (symbols ≤ 64) × (count ≤ 1024) ⌝ }
-    ensures { λ r. ⌜ Progressed symbols (has wanted) «code_rows» survivors (sheetSteps count (now (steps .entry))) r ⌝ }
+    requires { ⌜ (symbols ≤ setWidth) × (count ≤ 1024) ⌝ }
+    ensures { λ r. ⌜ Progressed symbols (has (numeral wanted)) (numerals «code_rows») (numeral survivors) (sheetSteps count (now (steps .entry))) (reached r) ⌝ }
 {
     let mut rows = code_rows;
     let mut known = survivors;
-    let mut sources = 0;
+    let mut sources = empty();
     let mut number = 0;
     while number < count {
         let reading = read_step(steps, number, symbols, wanted, known);

@@ -2,6 +2,7 @@
 use mathlib.Core.Path.{sym, _∙_, subst}
 use native.Mathlib.Omega.{arith}
 use Rattle.gf2.specs.Plans.{NamesBelow}
+use Rattle.bits.specs.Numerals.{setWidth}
 use borrow.Author.Needs.{needs}
 use Rattle.steps.proofs.is_ready.Statement.{statement}
 use Rattle.steps.proofs.is_ready.Tie as tie
@@ -13,19 +14,19 @@ enum-known-step : tie.Need-enum-known-step
 enum-known-step c = c .match .keys2
 
 has-requires : tie.Need-has-requires
-has-requires c κs = subst (NamesBelow 64) (c .before .step .given .1) (c .before .before .before .pre) .1
+has-requires c κs = subst (NamesBelow setWidth) (c .before .step .given .1) (c .before .before .before .pre) .1
 
 enum-known-step-2 : tie.Need-enum-known-step-2
 enum-known-step-2 c = c .match .keys3
 
 has-requires-2 : tie.Need-has-requires-2
 has-requires-2 c κs =
-    let named = subst (NamesBelow 64) (c .before .step2 .given .1) (c .before .before .before .pre) in
+    let named = subst (NamesBelow setWidth) (c .before .step2 .given .1) (c .before .before .before .pre) in
     omega arith
 
 has-requires-3 : tie.Need-has-requires-3
 has-requires-3 c κs =
-    let named = subst (NamesBelow 64) (c .before .before .before .step2 .given .1) (c .before .before .before .before .before .pre) in
+    let named = subst (NamesBelow setWidth) (c .before .before .before .step2 .given .1) (c .before .before .before .before .before .pre) in
     omega arith
 
 returns : tie.Need-returns

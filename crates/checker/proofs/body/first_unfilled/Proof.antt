@@ -1,20 +1,19 @@
 -- `checker::body::first_unfilled` meets its contract. The invariant: each wanted symbol passed is filled. Assumes nothing.
-use mathlib.Core.Path.{_≡_, sym, ap, _∙_}
+use mathlib.Core.Path.{_≡_, sym, _∙_}
 use mathlib.Core.Bool.{false, not, _&&_}
 use Prim.Native.Nat.{ℕ, _-_, _≤_, _<_}
 use native.Mathlib.Nat.{le-refl, not-suc-le-zero}
 use native.Mathlib.Omega.{arith}
-use lib.Bits.{bitXor}
 use borrow.Author.Count.{below-more}
 use borrow.Author.Tests.{eqb-true}
 use Rattle.bits.specs.BitSets.{has}
-use Rattle.bits.proofs.XorLaws.{equal-if-xor-zero}
+use Rattle.bits.specs.Numerals.{numeral}
 use Rattle.plans.proofs.EndLaws.{all-known, lowest-found, lowest-none}
 use Rattle.checker.proofs.body.first_unfilled.Statement.{statement}
 use Rattle.checker.proofs.body.first_unfilled.Tie as tie
 
 abbrev Inv-loop : tie.InvT-loop
-Inv-loop symbols wanted known s₀ s = (s ≤ symbols) × ((j : ℕ) → j < s → (has wanted j && not (has known j)) ≡ false)
+Inv-loop symbols wanted known s₀ s = (s ≤ symbols) × ((j : ℕ) → j < s → (has (numeral wanted) j && not (has (numeral known) j)) ≡ false)
 
 abbrev μ-loop : tie.MeasureT-loop
 μ-loop symbols wanted known s₀ s = symbols - s
@@ -22,30 +21,26 @@ abbrev μ-loop : tie.MeasureT-loop
 common-requires : tie.Need-common-requires Inv-loop μ-loop
 common-requires c κs = tt
 
-sum-requires : tie.Need-sum-requires Inv-loop μ-loop
-sum-requires c κs = tt
-
-is-empty-requires : tie.Need-is-empty-requires Inv-loop μ-loop
-is-empty-requires c κs = tt
+equal-requires : tie.Need-equal-requires Inv-loop μ-loop
+equal-requires c κs = tt
 
 returns : tie.Need-returns Inv-loop μ-loop
 returns c =
-    let args = c .before .before .before .before .args in
-    let same = ap (λ (set : ℕ). bitXor set (args .wanted)) (sym (c .before .before .before .common .ensures)) ∙ sym (c .before .before .sum .ensures) in
-    let all = equal-if-xor-zero _ _ (same ∙ eqb-true _ _ (sym (c .before .is-empty .ensures) ∙ c .if1 .taken)) in
-    lowest-none (args .symbols) (has (args .wanted)) (λ s. not (has (args .known) s)) (args .symbols) (λ j h. all-known (args .wanted) (args .known) all j) (le-refl _) (le-refl _)
+    let args = c .before .before .before .args in
+    let all = sym (c .before .before .common .ensures) ∙ eqb-true _ _ (sym (c .before .equal .ensures) ∙ c .if1 .taken) in
+    lowest-none (args .symbols) (has (numeral (args .wanted))) (λ s. not (has (numeral (args .known)) s)) (args .symbols) (λ j h. all-known (numeral (args .wanted)) (numeral (args .known)) all j) (le-refl _) (le-refl _)
 
 loop-holds : tie.Need-loop-holds Inv-loop μ-loop
 loop-holds c = (omega arith, λ j h. absurd (not-suc-le-zero h))
 
 is-unfilled-requires : tie.Need-is-unfilled-requires Inv-loop μ-loop
-is-unfilled-requires c κs = omega (arith, c .before .before .before .before .before .before .pre)
+is-unfilled-requires c κs = omega (arith, c .before .before .before .before .before .pre)
 
 returns-2 : tie.Need-returns-2 Inv-loop μ-loop
 returns-2 c =
-    let args = c .before .before .before .before .before .before .before .before .args in
+    let args = c .before .before .before .before .before .before .before .args in
     let loop = c .before .before .before .loop in
-    lowest-found (args .symbols) (has (args .wanted)) (λ s. not (has (args .known) s)) (loop .s) (loop .inv .1) (c .before .before .loop-test .taken)
+    lowest-found (args .symbols) (has (numeral (args .wanted))) (λ s. not (has (numeral (args .known)) s)) (loop .s) (loop .inv .1) (c .before .before .loop-test .taken)
     (sym (c .before .is-unfilled .ensures) ∙ c .if2 .taken)
 
 add-s : tie.Need-add-s Inv-loop μ-loop
@@ -59,8 +54,8 @@ loop-again c = (omega arith, below-more _ _ (c .before .before .before .loop .in
 
 returns-3 : tie.Need-returns-3 Inv-loop μ-loop
 returns-3 c =
-    let args = c .before .before .before .before .before .before .args in
-    lowest-none (args .symbols) (has (args .wanted)) (λ s. not (has (args .known) s)) (c .before .loop .s) (c .before .loop .inv .1) (omega arith) (omega arith)
+    let args = c .before .before .before .before .before .args in
+    lowest-none (args .symbols) (has (numeral (args .wanted))) (λ s. not (has (numeral (args .known)) s)) (c .before .loop .s) (c .before .loop .inv .1) (omega arith) (omega arith)
 
 pub first-unfilled-spec : {M : Type 1} → statement M
 first-unfilled-spec =
@@ -69,8 +64,7 @@ first-unfilled-spec =
     Inv-loop
     μ-loop
     common-requires
-    sum-requires
-    is-empty-requires
+    equal-requires
     returns
     loop-holds
     is-unfilled-requires

@@ -5,6 +5,7 @@ use native.Mathlib.Omega.{arith}
 use lib.Bits.{bitXor}
 use Rattle.codes.proofs.LayoutLaws.{strip-within}
 use Rattle.bits.specs.BitSets.{has, below}
+use Rattle.bits.specs.Numerals.{setWidth, numeral}
 use Rattle.plans.specs.Judgement.{lost}
 use Rattle.plans.proofs.LossLaws.{strip-as-set, rest-as-set}
 use Rattle.plans.proofs.loss.loss_of_disk.Statement.{statement}
@@ -20,7 +21,7 @@ height-of-requires : tie.Need-height-of-requires
 height-of-requires c κs = tt
 
 -- The strip ends within a set's width
-end-to : (c : tie.After-height-of) → c .before .first-symbol .result + c .height-of .result ≤ 64
+end-to : (c : tie.After-height-of) → c .before .first-symbol .result + c .height-of .result ≤ setWidth
 end-to c =
     let start = c .before .before .before in
     omega (arith, c .before .first-symbol .ensures, c .height-of .ensures, strip-within (start .args .layout) (start .args .disk) (start .pre .disk-below), start .pre .symbols-to)
@@ -44,7 +45,7 @@ sum-requires-2 : tie.Need-sum-requires-2
 sum-requires-2 c κs = tt
 
 -- The first sum is the strip
-strip-is : (c : tie.After-sum) → (s : ℕ) → has (c .sum .result) s ≡ lost (c .before .before .before .before .before .before .args .layout) (c .before .before .before .before .before .before .args .disk) s
+strip-is : (c : tie.After-sum) → (s : ℕ) → has (numeral (c .sum .result)) s ≡ lost (c .before .before .before .before .before .before .args .layout) (c .before .before .before .before .before .before .args .disk) s
 strip-is c s =
     let start = c .before .before .before .before .before .before in
     let layout = start .args .layout in
@@ -63,8 +64,8 @@ returns c =
       symbols,
       (
         λ s.
-            ap (λ (set : ℕ). has set s) (c .sum2 .ensures ∙ ap (λ (all : ℕ). bitXor all (sum .sum .result)) (c .before .below3 .ensures ∙ ap below symbols))
-            ∙ rest-as-set (start .args .layout) (start .args .disk) (sum .sum .result) (strip-is sum) s,
+            ap (λ (set : ℕ). has set s) (c .sum2 .ensures ∙ ap (λ (all : ℕ). bitXor all (numeral (sum .sum .result))) (c .before .below3 .ensures ∙ ap below symbols))
+            ∙ rest-as-set (start .args .layout) (start .args .disk) (numeral (sum .sum .result)) (strip-is sum) s,
         (strip-is sum, sum .before .before .before .before .first-symbol .ensures),
       ),
     )

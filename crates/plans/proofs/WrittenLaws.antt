@@ -1,0 +1,41 @@
+-- A plan that is read from a sheet as it was written: its steps are well formed, and its head fits. Assumes nothing.
+use mathlib.Core.Path.{_≡_, refl, ap, _∙_, subst}
+use mathlib.Core.Bool.{false}
+use mathlib.Core.List.{List, [], _∷_, _++_, List·Memᴰ, List·Memᴰ·head, List·Memᴰ·tail, List·Memᴰ·cases-cons, List·Memᴰ·not-nil}
+use mathlib.Core.Logic.{⊎-elim, inl, inr}
+use Prim.Native.Nat.{ℕ, _<_}
+use lib.ListN.{length}
+use borrow.Author.Tests.{lt-leb}
+use Rattle.codes.specs.Codes.{LinearCode}
+use Rattle.gf2.specs.Plans.{NamesBelow, StepsBelow}
+use Rattle.gf2.specs.declared.Step.{Step}
+use Rattle.gf2.specs.declared.Step.the-variants.{Clear, Copy, Add}
+use Rattle.plan_sheets.specs.PlanSheets.{firstStep, sheetSteps}
+use Rattle.plan_sheets.specs.InnerPlanSheets.{EditionFits, headFor, stepBytes, stepsBytes}
+use Rattle.plan_sheets.proofs.ReadBackLaws.{behind-first-step}
+use Rattle.plans.specs.Demand2.{HeadFits}
+use Rattle.plans.specs.Judgement.{malformed, EachFormed}
+
+module _ (count : ℕ) (some : 0 < count) where
+  -- A step that names places below `count` is not malformed
+  step-formed : (step : Step) (bytes : List ℕ) → NamesBelow count step → malformed count (firstStep (stepBytes step ++ bytes)) ≡ false
+  step-formed (Clear t) bytes below = rw (lt-leb count t below, lt-leb count 0 some)
+  step-formed (Copy t s) bytes below = rw (lt-leb count t (below .0), lt-leb count s (below .1))
+  step-formed (Add t s) bytes below = rw (lt-leb count t (below .0), lt-leb count s (below .1))
+
+  -- Nor is one of several
+  pub each-formed-written : (steps : List Step) → StepsBelow count steps → EachFormed count (sheetSteps (length steps) (stepsBytes steps))
+  unfolding stepsBytes sheetSteps
+  each-formed-written [] below s m = absurd (List·Memᴰ·not-nil m)
+  each-formed-written (step ∷ steps) below s m =
+      ⊎-elim
+      (λ here. ap (malformed count) here ∙ step-formed step (stepsBytes steps) (below step (List·Memᴰ·head refl)))
+      (λ later. each-formed-written steps (λ p n. below p (List·Memᴰ·tail n)) s
+      (subst (λ (b : List ℕ). List·Memᴰ s (sheetSteps (length steps) b)) (behind-first-step step (stepsBytes steps)) later))
+      (List·Memᴰ·cases-cons m)
+
+-- The head fits the code and the disk that it was written for
+pub head-fits-written : (code : LinearCode) (edition disk reads : ℕ) (list : List ℕ) → EditionFits edition list
+    → HeadFits code disk (headFor edition (code .layout) (code .data_symbols) disk reads)
+head-fits-written code edition disk reads list fits =
+    record { first-count = refl; edition = ⊎-elim (λ one. inl (one .0)) (λ two. inr two) fits; disks = refl; height = refl; data-symbols = refl; failed-disk = refl }
