@@ -9,7 +9,7 @@ use Rattle.encoding.specs.Encoding.{encodeFaults, encodeVerdict, encodin
 use Rattle.refusals.specs.Orders.{andThen, ifFine, Outcome, Fine, Refused}
 use Rattle.refusals.specs.Refusals.{Numbered}
 use Rattle.refusals.proofs.OrderLaws.{fine-means-none-holds}
-use Rattle.sheets.specs.CodeReading.{CodeRead, reading}
+use Rattle.code_sheets.specs.CodeReading.{CodeRead, reading}
 
 -- What a fine verdict says of the lengths
 pub record Fits (read : CodeRead) (count size dataBytes stripeBytes : ℕ) : Type 0 where

@@ -2,7 +2,7 @@
 use mathlib.Core.Path.{_≡_, sym, ap, ap₂, _∙_}
 use mathlib.Core.Bool.{Bool, true, false, cond}
 use mathlib.Core.List.{List, [], _∷_, _++_, append-nil, append-assoc}
-use Prim.Native.Nat.{ℕ, zero, _+_, _-_, _*_, _≤_, _<_}
+use Prim.Native.Nat.{ℕ, _+_, _-_, _*_, _≤_, _<_}
 use native.Mathlib.Nat.{mul-le-mul-right, zero-mul}
 use native.Mathlib.Numerals.{add-one}
 use native.Mathlib.Omega.{arith}
@@ -10,6 +10,7 @@ use lib.ListN.{length, getD, take, drop, replicate, drop-of-length-le, length-ap
 use lib.Seq.{length-take-le, take-at, drop-at, drop-drop, take-suc}
 use borrow.Rule.Slice.PartMut.{putMid}
 use Rattle.bits.specs.BitSets.{has}
+use Rattle.bits.specs.Numerals.{setWidth}
 use Rattle.gf2.proofs.SymbolLaws.{part-length, part-is-symbol, length-encodedSymbol, length-encoding}
 use Rattle.gf2.specs.Stripes.{symbol, xorBytes, encodedSymbol, encoding}
 
@@ -82,7 +83,6 @@ module _ (size dataSymbols : ℕ) (rows bytes stripe : List ℕ) (exact : length
   pub written-more : (s : ℕ) (now new : List ℕ) → s < length rows → now ≡ writtenTo size dataSymbols rows bytes stripe s
       → new ≡ encodedSymbol size bytes (getD rows s 0) dataSymbols
       → putMid (s * size) ((s + 1) * size - s * size) now new ≡ writtenTo size dataSymbols rows bytes stripe (s + 1)
-  unfolding putMid
   written-more s now new h e f =
       let front : List ℕ = encoding size dataSymbols (take s rows) bytes in
       let fits : length front ≡ s * size = length-front s (omega arith) in
@@ -118,15 +118,15 @@ module _ (size dataSymbols : ℕ) (rows bytes stripe : List ℕ) (exact : length
       )
 
   -- One turn of the loop
-  pub written-next : (count : ℕ) (now new : List ℕ) (s : ℕ) → count ≤ 64 → length stripe ≡ count * size → s < count
-      → WrittenSoFar size dataSymbols rows bytes stripe count now s × (length rows ≡ 64)
+  pub written-next : (count : ℕ) (now new : List ℕ) (s : ℕ) → count ≤ setWidth → length stripe ≡ count * size → s < count
+      → WrittenSoFar size dataSymbols rows bytes stripe count now s × (length rows ≡ setWidth)
       → new ≡ encodedSymbol size bytes (getD rows s 0) dataSymbols
-      → WrittenSoFar size dataSymbols rows bytes stripe count (putMid (s * size) ((s + 1) * size - s * size) now new) (s + 1) × (length rows ≡ 64)
+      → WrittenSoFar size dataSymbols rows bytes stripe count (putMid (s * size) ((s + 1) * size - s * size) now new) (s + 1) × (length rows ≡ setWidth)
   written-next count now new s few whole h (so-far, held) e =
       (written-so-far count _ (s + 1) whole (omega arith) (omega arith) (written-more s now new (omega arith) (so-far .2) e), held)
 
 -- Where a symbol ends, in numbers far from a word's last
-pub symbol-end-small : (s count size : ℕ) → count ≤ 64 → size ≤ 65536 → s < count → (s + 1) * size ≤ 4194304
+pub symbol-end-small : (s count size : ℕ) → count ≤ setWidth → size ≤ 65536 → s < count → (s + 1) * size ≤ setWidth * 65536
 symbol-end-small s count size few small h =
-    let below : s + 1 ≤ 64 = omega arith in
+    let below : s + 1 ≤ setWidth = omega arith in
     omega (arith, mul-le-mul-right size below)

@@ -2,13 +2,12 @@
 use mathlib.Core.List.{List, [], _∷_, _++_}
 use Prim.Native.Nat.{ℕ}
 use lib.ListN.{length}
-use Rattle.codes.specs.Codes.{symbols, matrix}
+use Rattle.codes.specs.Codes.{LinearCode, symbols, matrix}
 use Rattle.codes.specs.Lengths.{symbolLengthFaults, lengthFault}
-use Rattle.codes.specs.declared.Code.{Code}
 use Rattle.gf2.specs.Stripes.{encoding}
 use Rattle.refusals.specs.Orders.{Fault, andThen, ifFine, Outcome}
 use Rattle.refusals.specs.Refusals.{_at_}
-use Rattle.sheets.specs.CodeReading.{reading}
+use Rattle.code_sheets.specs.CodeReading.{reading}
 
 -- 31, 33 (data isn't K × L bytes), 32 (stripe isn't N × L bytes)
 abbrev pub encodeFaults : ℕ → ℕ → ℕ → ℕ → ℕ → List Fault
@@ -25,7 +24,7 @@ encodeVerdict sheet size dataBytes stripeBytes =
     andThen (reading sheet .verdict) (encodeFaults (symbols code) (code .data_symbols) size dataBytes stripeBytes)
 
 -- The encoding of data symbols of L bytes: the generator-matrix product
-abbrev pub encodingOf : Code → ℕ → List ℕ → List ℕ
+abbrev pub encodingOf : LinearCode → ℕ → List ℕ → List ℕ
 encodingOf code size contents = encoding size (code .data_symbols) (matrix code) contents
 
 -- The stripe afterwards: the encoding, or where the call is refused what it was

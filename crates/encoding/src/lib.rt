@@ -2,15 +2,17 @@
 ghost use mathlib.Core.Path.{_≡_};
 ghost use Prim.Native.Nat.{_+_, _*_, _≤_, _<_};
 ghost use lib.ListN.{length, take, replicate};
+ghost use Rattle.bits.specs.Numerals.{setWidth, numeral, numerals};
 ghost use Rattle.gf2.specs.Stripes.{xorBytes, encodedSymbol, encoding};
 ghost use Rattle.refusals.specs.Orders.{outcome, andThen};
 ghost use Rattle.encoding.specs.Encoding.{encodeFaults, encodeVerdict, encodedStripe};
 use bits::BitSet;
+use bits::BitSets;
+use code_sheets::read_code;
 use codes::is_length;
 use codes::symbol_length_test;
 use refusals::Refusal;
 use refusals::Verdict;
-use sheets::read_code;
 
 // Every byte becomes zero.
 fn clear(target: &mut [u8])
@@ -37,8 +39,8 @@ fn add(target: &mut [u8], source: &[u8])
 
 // One symbol: the XOR of the data symbols whose bits the row has. Each is taken as a part out of the middle of the lent data.
 fn encode_symbol(row: BitSet, data_symbols: usize, size: usize, contents: &[u8], target: &mut [u8])
-    requires { ⌜ (data_symbols ≤ 64) × (size ≤ 65536) × (length (now contents) ≡ data_symbols * size) × (length (now target) ≡ size) ⌝ }
-    ensures { λ _. ⌜ now (target .exit) ≡ encodedSymbol size (now (contents .entry)) row data_symbols ⌝ }
+    requires { ⌜ (data_symbols ≤ setWidth) × (size ≤ 65536) × (length (now contents) ≡ data_symbols * size) × (length (now target) ≡ size) ⌝ }
+    ensures { λ _. ⌜ now (target .exit) ≡ encodedSymbol size (now (contents .entry)) (numeral row) data_symbols ⌝ }
 {
     clear(target);
     let mut t = 0;
@@ -52,15 +54,15 @@ fn encode_symbol(row: BitSet, data_symbols: usize, size: usize, contents: &[u8],
 
 // Every symbol, one after the other.
 fn encode_symbols(
-    rows: [BitSet; 64],
+    rows: BitSets,
     symbols: usize,
     data_symbols: usize,
     size: usize,
     contents: &[u8],
     stripe: &mut [u8],
 )
-    requires { ⌜ (symbols ≤ 64) × (data_symbols ≤ 64) × (size ≤ 65536) × (length (now contents) ≡ data_symbols * size) × (length (now stripe) ≡ symbols * size) ⌝ }
-    ensures { λ _. ⌜ now (stripe .exit) ≡ encoding size data_symbols (take symbols rows) (now (contents .entry)) ⌝ }
+    requires { ⌜ (symbols ≤ setWidth) × (data_symbols ≤ setWidth) × (size ≤ 65536) × (length (now contents) ≡ data_symbols * size) × (length (now stripe) ≡ symbols * size) ⌝ }
+    ensures { λ _. ⌜ now (stripe .exit) ≡ encoding size data_symbols (take symbols (numerals rows)) (now (contents .entry)) ⌝ }
 {
     let mut s = 0;
     while s < symbols {

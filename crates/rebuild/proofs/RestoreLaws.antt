@@ -5,14 +5,13 @@ use Prim.Native.Nat.{ℕ, _*_, _<_}
 use lib.ListN.{length}
 use Rattle.plans.specs.Demand2.{Deserves}
 use Rattle.plans.specs.Judgement.{planVerdict}
-use Rattle.plans.specs.Plans.{planIn}
+use Rattle.plan_sheets.specs.PlanSheets.{planIn}
 use Rattle.plans.proofs.JudgementLaws.{length-matrix, fine-if-deserves, gives-stripe-back-if-fine, depends-on-survivors-if-fine, keeps-kept-if-fine, keeps-length-if-fine}
 use Rattle.refusals.specs.Orders.{Fine}
-use Rattle.codes.specs.Codes.{symbols, matrix, WithinLimits}
-use Rattle.codes.specs.declared.Code.{Code}
+use Rattle.codes.specs.Codes.{LinearCode, symbols, matrix, WithinLimits}
 use Rattle.rebuild.specs.Rebuild.{rebuilt, Restored}
 
-module _ (code : Code) (within : WithinLimits code) (disk : ℕ) (disk-below : disk < code .layout .disks) (planSheet : List ℕ) (count : ℕ)
+module _ (code : LinearCode) (within : WithinLimits code) (disk : ℕ) (disk-below : disk < code .layout .disks) (planSheet : List ℕ) (count : ℕ)
     (deserves : Deserves code disk (planIn planSheet) count) (size : ℕ) (before : List ℕ) (whole : length before ≡ symbols code * size) where
   fine : planVerdict code disk (planIn planSheet) ≡ Fine
   fine = fine-if-deserves code within disk disk-below (planIn planSheet) count deserves

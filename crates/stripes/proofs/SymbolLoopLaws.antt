@@ -2,14 +2,14 @@
 -- still has its next byte. Assumes nothing.
 use mathlib.Core.Path.{_≡_, sym, ap, ap₂, _∙_}
 use mathlib.Core.List.{List, _++_, append-assoc}
-use Prim.Native.Nat.{ℕ, suc, _+_, _-_, _*_, _≤_, _<_}
+use Prim.Native.Nat.{ℕ, suc, _+_, _*_, _≤_, _<_}
 use native.Mathlib.Decide.{decLt}
 use native.Mathlib.Nat.{mul-le-mul-right}
-use native.Mathlib.Numerals.{add-one}
 use native.Mathlib.Omega.{arith}
 use lib.Bits.{bitXor}
-use lib.ListN.{length, getD, set, take, drop, replicate, length-replicate, getD-replicate, List·getD-append}
-use lib.Seq.{paste, paste-suc, length-paste-head, length-take-le, getD-take, getD-drop, getD-append-add, take-all}
+use lib.ListN.{length, getD, set, take, drop, replicate, length-replicate, getD-replicate}
+use lib.Seq.{paste}
+use Rattle.bits.proofs.StoreLaws.{stored-more, stored-all, stored-before, stored-behind}
 use Rattle.gf2.specs.Stripes.{symbol, xorBytes, putSymbol}
 use Rattle.gf2.proofs.SymbolLaws.{length-symbol, getD-symbol, length-xorBytes, getD-xorBytes}
 
@@ -18,52 +18,29 @@ abbrev pub symbolTo : ℕ → List ℕ → ℕ → List ℕ → ℕ → List ℕ
 symbolTo L old t new done = paste old (t * L) new done
 
 module _ (L : ℕ) (old : List ℕ) (t : ℕ) (new : List ℕ) (fits : (t + 1) * L ≤ length old) (new-length : length new ≡ L) where
+  room : t * L + length new ≤ length old
+  room = omega arith
+
   -- One more byte stored
   pub symbolTo-more : (now : List ℕ) (i x : ℕ) → i < L → now ≡ symbolTo L old t new i → x ≡ getD new i 0
       → set now (t * L + i) x ≡ symbolTo L old t new (i + 1)
-  symbolTo-more now i x h e f =
-      ap₂ (λ (l : List ℕ) (b : ℕ). set l (t * L + i) b) e f
-      ∙ paste-suc old (t * L) new i 0 (omega arith) (omega arith)
-      ∙ ap (symbolTo L old t new) (sym (add-one i))
+  symbolTo-more now i x h e f = stored-more old new (t * L) room now i x (omega arith) e f
 
   -- All bytes stored: the symbol is replaced
   pub symbolTo-all : (now : List ℕ) (i : ℕ) → i ≡ L → now ≡ symbolTo L old t new i → now ≡ putSymbol L old t new
   unfolding putSymbol
   symbolTo-all now i done e =
-      e ∙ ap (symbolTo L old t new) done
-      ∙ ap (λ (l : List ℕ). take (t * L) old ++ l ++ drop (t * L + L) old) (take-all L new (omega arith))
+      stored-all old new (t * L) room now i (omega arith) e
+      ∙ ap (λ (n : ℕ). take (t * L) old ++ new ++ drop (t * L + n) old) new-length
       ∙ append-assoc (take (t * L) old) new (drop (t * L + L) old)
 
-  module _ (i : ℕ) (h : i < L) where
-    -- What is stored so far, with what stands before the symbol
-    length-stored : length (take (t * L) old ++ take i new) ≡ t * L + i
-    length-stored = length-paste-head old (t * L) new i (omega arith) (omega arith)
-
-    -- A byte before the symbol is as it was
-    byte-before : (k : ℕ) → k < t * L → getD (symbolTo L old t new i) k 0 ≡ getD old k 0
-    byte-before k before =
-        List·getD-append (take (t * L) old ++ take i new) (drop (t * L + i) old) 0 k (omega (arith, length-stored))
-        ∙ List·getD-append (take (t * L) old) (take i new) 0 k (omega (arith, length-take-le (t * L) old (omega arith)))
-        ∙ getD-take (t * L) old k 0 before
-
-    -- So is one that is not yet stored, or behind the symbol
-    byte-behind : (k : ℕ) → t * L + i ≤ k → getD (symbolTo L old t new i) k 0 ≡ getD old k 0
-    byte-behind k behind =
-        let stored = length-stored in
-        let position : length (take (t * L) old ++ take i new) + (k - (t * L + i)) ≡ k = omega arith in
-        let same : t * L + i + (k - (t * L + i)) ≡ k = omega arith in
-        ap (λ (j : ℕ). getD (symbolTo L old t new i) j 0) (sym position)
-        ∙ getD-append-add (take (t * L) old ++ take i new) (drop (t * L + i) old) (k - (t * L + i)) 0
-        ∙ getD-drop (t * L + i) old (k - (t * L + i)) 0
-        ∙ ap (λ (j : ℕ). getD old j 0) same
-
-    -- The next byte of any symbol, the target or another, is as it was
-    pub next-byte-kept : (now : List ℕ) (s : ℕ) → now ≡ symbolTo L old t new i → getD now (s * L + i) 0 ≡ getD (symbol L old s) i 0
-    next-byte-kept now s e = ap (λ (l : List ℕ). getD l (s * L + i) 0) e ∙ by-order (decLt s t) ∙ sym (getD-symbol L old s i h)
-      where
-        by-order : Dec (s < t) → getD (symbolTo L old t new i) (s * L + i) 0 ≡ getD old (s * L + i) 0
-        by-order (yes q) = byte-before (s * L + i) (omega (arith, mul-le-mul-right {m = suc s} {n = t} L q))
-        by-order (no q) = byte-behind (s * L + i) (omega (arith, mul-le-mul-right {m = t} {n = s} L (omega arith)))
+  -- The next byte of any symbol, the target or another, is as it was
+  pub next-byte-kept : (i : ℕ) → i < L → (now : List ℕ) (s : ℕ) → now ≡ symbolTo L old t new i → getD now (s * L + i) 0 ≡ getD (symbol L old s) i 0
+  next-byte-kept i h now s e = ap (λ (l : List ℕ). getD l (s * L + i) 0) e ∙ by-order (decLt s t) ∙ sym (getD-symbol L old s i h)
+    where
+      by-order : Dec (s < t) → getD (symbolTo L old t new i) (s * L + i) 0 ≡ getD old (s * L + i) 0
+      by-order (yes q) = stored-before old new (t * L) room i (omega arith) (s * L + i) (omega (arith, mul-le-mul-right {m = suc s} {n = t} L q))
+      by-order (no q) = stored-behind old new (t * L) room i (omega arith) (s * L + i) (omega (arith, mul-le-mul-right {m = t} {n = s} L (omega arith)))
 
 -- ------------------------------------------------------------------
 -- The three loops

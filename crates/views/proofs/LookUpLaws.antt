@@ -15,7 +15,7 @@ use Rattle.gf2.specs.Stripes.{symbol}
 use Rattle.refusals.specs.Orders.{_gets_, andThen, ifFine, Outcome, Fine, Refused}
 use Rattle.refusals.specs.Refusals.{Numbered, _at_}
 use Rattle.refusals.proofs.OrderLaws.{fine-means-none-holds, refused-is-not-fine}
-use Rattle.sheets.specs.CodeReading.{CodeRead}
+use Rattle.code_sheets.specs.CodeReading.{CodeRead}
 use Rattle.views.proofs.ReadLaws.{ReadFrom}
 use Rattle.views.proofs.StripLaws.{StripFits, fine-strip-fits}
 use Rattle.views.specs.Places.{sliceOf, nowhere, symbolPart, symbolPlace, Shows}

@@ -5,8 +5,8 @@ use Prim.Native.Nat.{ℕ, _≤_}
 use native.Mathlib.Omega.{arith}
 use Rattle.codes.specs.Codes.{WithinLimits}
 use Rattle.refusals.specs.Orders.{Fine}
-use Rattle.sheets.proofs.ReadingLaws.{Small, reading-small}
-use Rattle.sheets.specs.CodeReading.{CodeRead, reading}
+use Rattle.code_sheets.proofs.ReadingLaws.{Small, reading-small}
+use Rattle.code_sheets.specs.CodeReading.{CodeRead, reading}
 
 -- What `read_code` promises of its answer: it is the reading, and within the limits where nothing is refused
 abbrev pub ReadFrom : List ℕ → CodeRead → Type 0

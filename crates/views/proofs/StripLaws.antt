@@ -13,7 +13,7 @@ use Rattle.codes.specs.Layouts.{symbolsOf, firstSymbol, heightOf}
 use Rattle.refusals.specs.Orders.{andThen, ifFine, Outcome, Fine, Refused}
 use Rattle.refusals.specs.Refusals.{Numbered}
 use Rattle.refusals.proofs.OrderLaws.{fine-means-none-holds, refused-is-not-fine}
-use Rattle.sheets.specs.CodeReading.{CodeRead}
+use Rattle.code_sheets.specs.CodeReading.{CodeRead}
 use Rattle.views.proofs.ReadLaws.{ReadFrom}
 use Rattle.views.specs.Places.{nowhere, stripPart, stripPlace, Shows}
 use Rattle.views.specs.Views.{stripFaults, stripVerdict, stripOf, stripShown}

@@ -10,7 +10,7 @@ use Rattle.codes.specs.declared.Layout.{Layout}
 use Rattle.gf2.specs.Stripes.{symbol}
 use Rattle.refusals.specs.Orders.{Fault, _gets_, andThen, ifFine, Outcome}
 use Rattle.refusals.specs.Refusals.{_at_}
-use Rattle.sheets.specs.CodeReading.{reading}
+use Rattle.code_sheets.specs.CodeReading.{reading}
 
 -- The layout of a code sheet that is not refused
 abbrev pub layoutOf : List ℕ → Layout

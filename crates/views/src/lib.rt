@@ -5,12 +5,12 @@ ghost use lib.ListN.{length};
 ghost use Rattle.refusals.specs.Orders.{Fine, outcome, andThen};
 ghost use Rattle.views.specs.Views.{stripFaults, stripVerdict, stripShown, lookUpFaults, lookUpVerdict, symbolShown};
 ghost use Rattle.views.specs.Places.{nowhere, stripPlace, symbolPlace, sliceOf, Shows, beginning};
+use code_sheets::read_code;
 use codes::Layout;
 use codes::is_length;
 use codes::stripe_test;
 use refusals::Refusal;
 use refusals::Verdict;
-use sheets::read_code;
 
 // Where a part lies: in the spare strip or in the stripe, from which byte on, and how many bytes.
 pub struct Part {

@@ -3,7 +3,7 @@ use Prim.Native.Nat.{_-_, _≤_}
 use mathlib.Core.Path.{_≡_, refl}
 use native.Mathlib.Omega.{arith}
 use lib.ListN.{length, length-set}
-use Rattle.gf2.proofs.StoreLaws.{overwritten}
+use Rattle.bits.proofs.StoreLaws.{overwritten}
 use Rattle.gf2.specs.Stripes.{xorBytes}
 use Rattle.encoding.proofs.ByteLoopLaws.{added-more, added-all}
 use Rattle.encoding.proofs.add.Statement.{statement}

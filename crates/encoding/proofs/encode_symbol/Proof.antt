@@ -3,6 +3,7 @@ use Prim.Native.Nat.{_+_, _-_}
 use mathlib.Core.Path.{_≡_, sym, ap, _∙_}
 use native.Mathlib.Omega.{arith}
 use mathlib.Core.Logic.{⊎-elim}
+use Rattle.bits.specs.Numerals.{numeral}
 use Rattle.gf2.proofs.SymbolLaws.{symbol-ends-within}
 use Rattle.encoding.proofs.EncodingLaws.{SummedSoFar, summed-so-far, encodedSymbol-none, encodedSymbol-has, encodedSymbol-lacks, symbol-end-small}
 use Rattle.gf2.specs.Stripes.{encodedSymbol}
@@ -10,7 +11,7 @@ use Rattle.encoding.proofs.encode_symbol.Statement.{statement}
 use Rattle.encoding.proofs.encode_symbol.Tie as tie
 
 abbrev Inv-loop : tie.InvT-loop
-Inv-loop row data-symbols size contents target₀ t₀ target t = SummedSoFar data-symbols size contents row target t
+Inv-loop row data-symbols size contents target₀ t₀ target t = SummedSoFar data-symbols size contents (numeral row) target t
 
 abbrev μ-loop : tie.MeasureT-loop
 μ-loop row data-symbols size contents target₀ t₀ target t = data-symbols - t
@@ -21,8 +22,8 @@ clear-requires c κs = omega arith
 loop-holds : tie.Need-loop-holds Inv-loop μ-loop
 loop-holds c =
     let args = c .before .before .before .before .before .before .args in
-    summed-so-far (args .data-symbols) (args .size) (args .contents .now) (args .row) _ 0 (omega arith) (omega arith)
-    (c .before .before .clear .ensures ∙ encodedSymbol-none (args .size) (args .contents .now) (args .row) (args .target .now) (omega arith))
+    summed-so-far (args .data-symbols) (args .size) (args .contents .now) (numeral (args .row)) _ 0 (omega arith) (omega arith)
+    (c .before .before .clear .ensures ∙ encodedSymbol-none (args .size) (args .contents .now) (numeral (args .row)) (args .target .now) (omega arith))
 
 has-requires : tie.Need-has-requires Inv-loop μ-loop
 has-requires c κs = omega (arith, c .before .before .before .before .before .before .before .before .pre .0, c .loop-test .taken)
@@ -67,10 +68,10 @@ loop-again c =
     let bytes = args .contents .now in
     let loop = c .before .before .before .loop in
     let bit = sym (c .before .has .ensures) in
-    summed-so-far (args .data-symbols) (args .size) bytes (args .row) (c .if1 .target) (loop .t + 1) (start .pre .2) (omega (arith, c .before .before .loop-test .taken))
+    summed-so-far (args .data-symbols) (args .size) bytes (numeral (args .row)) (c .if1 .target) (loop .t + 1) (start .pre .2) (omega (arith, c .before .before .loop-test .taken))
     (⊎-elim
-    (λ w. encodedSymbol-has (args .size) bytes (args .row) (loop .t) (loop .target) (c .if1 .target) (bit ∙ w .0 .taken) (loop .inv .2) (w .6 ∙ w .3 .ensures))
-    (λ w. w .1 ∙ encodedSymbol-lacks (args .size) bytes (args .row) (loop .t) (loop .target) (bit ∙ w .0 .left) (loop .inv .2))
+    (λ w. encodedSymbol-has (args .size) bytes (numeral (args .row)) (loop .t) (loop .target) (c .if1 .target) (bit ∙ w .0 .taken) (loop .inv .2) (w .6 ∙ w .3 .ensures))
+    (λ w. w .1 ∙ encodedSymbol-lacks (args .size) bytes (numeral (args .row)) (loop .t) (loop .target) (bit ∙ w .0 .left) (loop .inv .2))
     (c .if1 .came))
 
 same-length : tie.Need-same-length Inv-loop μ-loop
@@ -80,7 +81,7 @@ returns : tie.Need-returns Inv-loop μ-loop
 returns c =
     let args = c .before .before .before .before .before .before .before .before .args in
     let all : c .before .loop .t ≡ args .data-symbols = omega (arith, c .before .loop .inv .0, c .loop-test .left) in
-    c .before .loop .inv .2 ∙ ap (encodedSymbol (args .size) (args .contents .now) (args .row)) all
+    c .before .loop .inv .2 ∙ ap (encodedSymbol (args .size) (args .contents .now) (numeral (args .row))) all
 
 pub encode-symbol-spec : {M : Type 1} → statement M
 encode-symbol-spec =

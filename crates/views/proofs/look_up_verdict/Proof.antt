@@ -1,5 +1,5 @@
 -- `views::look_up_verdict` meets its contract. Assumes nothing.
-use Rattle.sheets.specs.CodeReading.{asRead}
+use Rattle.code_sheets.specs.CodeReading.{asRead}
 use Rattle.views.proofs.ReadLaws.{layout-small}
 use Rattle.views.proofs.LookUpLaws.{look-up-verdict-is}
 use Rattle.views.proofs.look_up_verdict.Statement.{statement}

@@ -3,7 +3,7 @@ use mathlib.Core.Path.{refl, ap}
 use native.Mathlib.Omega.{arith}
 use lib.ListN.{length}
 use Rattle.refusals.specs.Orders.{outcome}
-use Rattle.sheets.specs.CodeReading.{asRead}
+use Rattle.code_sheets.specs.CodeReading.{asRead}
 use Rattle.views.proofs.ReadLaws.{layout-small}
 use Rattle.views.proofs.StripLaws.{StripFits, fine-strip-fits, strip-ends-within, strip-refused, strip-placed}
 use Rattle.views.proofs.strip_place.Statement.{statement}

@@ -1,5 +1,5 @@
 -- `views::strip_verdict` meets its contract. Assumes nothing.
-use Rattle.sheets.specs.CodeReading.{asRead}
+use Rattle.code_sheets.specs.CodeReading.{asRead}
 use Rattle.views.proofs.ReadLaws.{layout-small}
 use Rattle.views.proofs.StripLaws.{strip-verdict-is}
 use Rattle.views.proofs.strip_verdict.Statement.{statement}

@@ -3,7 +3,7 @@ use mathlib.Core.Path.{ap}
 use native.Mathlib.Omega.{arith}
 use lib.ListN.{length}
 use Rattle.refusals.specs.Orders.{outcome}
-use Rattle.sheets.specs.CodeReading.{asRead}
+use Rattle.code_sheets.specs.CodeReading.{asRead}
 use Rattle.views.proofs.ReadLaws.{layout-small}
 use Rattle.views.proofs.LookUpLaws.{LookUpFits, fine-look-up-fits, look-up-refused, lost-from-first, lost-ends-within, lost-placed, survivor-ends-within, survivor-placed}
 use Rattle.views.proofs.symbol_place.Statement.{statement}
