@@ -1,147 +1,130 @@
--- What the functions of elimination gave for a code is what the laws of planning speak of. Assumes nothing.
+-- What solving gave for a code is what the laws of planning speak of. Assumes nothing.
 use mathlib.Core.Path.{_≡_, refl, sym, ap, ap₂, _∙_, subst, fun-ext}
 use mathlib.Core.Bool.{Bool, true, false, cond}
-use mathlib.Core.List.{List, [], _∷_, _++_, List·Memᴰ}
+use mathlib.Core.List.{List, List·Memᴰ}
 use mathlib.Core.Logic.{⊎-elim}
 use Prim.Native.Nat.{ℕ, _+_, _^_, _≤_, _<_}
 use native.Mathlib.Omega.{arith}
-use lib.Dec.{eqb, ltb}
-use lib.ListN.{length, getD, take, drop}
-use lib.Pow.{pow-pos}
-use borrow.Author.Tests.{eqb-true, eqb-false, lt-ltb}
-use Rattle.plans.specs.Judgement.{lost, survives}
-use Rattle.plans.proofs.JudgementLaws.{lost-below, wanted-is-lost}
-use Rattle.codes.specs.Codes.{symbols}
-use Rattle.codes.specs.declared.Code.{Code}
-use Rattle.codes.proofs.LayoutLaws.{height-of-at-most}
-use Rattle.elimination.specs.InnerPatterns.{unitPatterns}
+use lib.Dec.{eqb}
+use lib.ListN.{length, getD, take}
+use borrow.Author.Tests.{eqb-true, eqb-false}
 use Rattle.bits.specs.BitSets.{has}
-use Rattle.gf2.specs.InnerElimination.{remaining, pivots, backSubstitute}
-use Rattle.gf2.specs.Plans.{Within}
-use Rattle.gf2.specs.declared.Step.{Step}
+use Rattle.bits.specs.Lists.{symbolsIn}
+use Rattle.bits.specs.Numerals.{setWidth, padded}
 use Rattle.bits.proofs.Booleans.{bool-cases}
+use Rattle.bits.proofs.PaddedLaws.{getD-padded}
+use Rattle.codes.specs.Codes.{LinearCode, symbols, matrix}
+use Rattle.codes.proofs.LayoutLaws.{height-of-at-most}
+use Rattle.codes.proofs.LimitLaws.{disk-within}
+use Rattle.elimination.specs.InnerPatterns.{unitPatterns, ZeroBehind}
+use Rattle.elimination.proofs.PatternLaws.{unitPatterns-zero-behind, remaining-zero-behind}
+use Rattle.gf2.specs.InnerElimination.{remaining, pivots}
+use Rattle.gf2.specs.InnerSubsetPlans.{survivors}
+use Rattle.gf2.specs.declared.Step.{Step}
 use Rattle.gf2.proofs.SubsetPlanLaws.{planOf-same}
-use Rattle.writing.specs.InnerPlanSheets.{EditionFits, headFor, headBytes, planSheet, stepsLength, symbolsIn, subsetPlan, sourceCount, PlanFits}
-use Rattle.planner.specs.Planning.{Asked, leastBuffer, APlan, APattern}
+use Rattle.plan_sheets.specs.PlanSheets.{sectionsFor, headLength}
+use Rattle.plan_sheets.specs.InnerPlanSheets.{EditionFits, sectionsOf, subsetPlan, sourceCount, PlanFits}
+use Rattle.plans.specs.Judgement.{survives}
+use Rattle.plans.proofs.JudgementLaws.{lost-below}
 use Rattle.refusals.specs.Orders.{Gives}
+use Rattle.sheets.specs.Buffers.{atFront}
+use Rattle.solve.specs.InnerSolving.{oddPattern, wantedSubsets}
+use Rattle.solve.proofs.RowLaws.{getD-subsets, subsets-below}
+use Rattle.planner.specs.Planning.{Asked, leastBuffer, APlan, APattern}
 use Rattle.planner.specs.Demand3.{askedSymbols, CannotBeRebuilt}
-use Rattle.planner.specs.InnerWork.{oddPattern, FilledTo, Workable, RightSteps, Worked}
-use Rattle.planner.proofs.StripLaws.{filled-are-survivors}
-use Rattle.planner.proofs.WorkLaws.{surviving, left, targets, target-wanted, matrix-row, subsetFor-row-below, subsetOf, stepsFound, found-rules-plans-out, steps-right}
+use Rattle.planner.specs.InnerWork.{Workable, RightSteps, sheetOf, Worked}
+use Rattle.planner.proofs.WorkLaws.{targets, survivingRows, patternsLeft, pivotsFound, patternFound, subsetOf, stepsFound, asked-is-lost, target-wanted, survivors-counted, found-rules-plans-out, steps-right}
 
 -- A known edition is 1 or 2
 edition-small : (edition : ℕ) (list : List ℕ) → EditionFits edition list → edition ≤ 2
 edition-small edition list fits = ⊎-elim (λ one. omega (arith, one .0)) (λ two. omega (arith, two)) fits
 
 -- The least buffer has room for a head and 1,024 steps
-head-room : (edition : ℕ) (list : List ℕ) → length list ≤ 32 → headBytes edition list + 3072 ≤ leastBuffer edition
+head-room : (edition : ℕ) (list : List ℕ) → length list ≤ 32 → headLength (sectionsOf edition list) + 3072 ≤ leastBuffer edition
+unfolding sectionsFor
 head-room edition list few =
-    bool-cases (λ c. 7 + length {A = ℕ} (cond c (length list ∷ list) []) + 2 + 3072 ≤ cond c 3114 3081) (omega arith) (omega arith) (eqb edition 2)
+    bool-cases (λ c. headLength (cond c (record { first = 8; count = length list }) (record { first = 7; count = 0 })) + 3072 ≤ cond c 3114 3081)
+    (omega arith) (omega arith) (eqb edition 2)
 
--- What elimination over a code's survivors gave: the rows with the lost ones cleared, the patterns it began with and those that remain, the pivots found
-pub record EliminatedFor (code : Code) (asked : Asked) (n known wanted : ℕ) (cleared patterns remainder found : List ℕ) : Type 0 where
+-- The rows of the first n symbols, and 0 for those that are not known
+abbrev pub knownRows : LinearCode → ℕ → ℕ → List ℕ
+knownRows code n known = survivors (has known) (take n (code .rows))
+
+-- What elimination gave for what was asked: the array's symbols, those that survive and those that are wanted; the survivors' rows, their pivots,
+-- and the patterns left
+pub record EliminatedFor (code : LinearCode) (asked : Asked) (n known wanted : ℕ) (surviving found left : List ℕ) : Type 0 where
   pub count-is : n ≡ symbols code
   pub known-are : (s : ℕ) → has known s ≡ survives (code .layout) (asked .disk) s
   pub wanted-are : (s : ℕ) → has wanted s ≡ askedSymbols code asked s
-  pub cleared-held : length cleared ≡ 64
-  pub cleared-is : FilledTo n (λ s. cond (has known s) (getD (code .rows) s 0) 0) cleared
-  pub patterns-are : patterns ≡ unitPatterns (code .data_symbols)
-  pub remainder-is : remainder ≡ remaining patterns (take n cleared)
-  pub found-are : take n found ≡ pivots patterns (take n cleared)
+  pub surviving-are : take n surviving ≡ knownRows code n known
+  pub found-are : take n found ≡ pivots (unitPatterns (code .data_symbols)) (knownRows code n known)
+  pub left-are : left ≡ remaining (unitPatterns (code .data_symbols)) (knownRows code n known)
 
-module _ (code : Code) (asked : Asked) {room : ℕ} (workable : Workable code asked room) where
-  -- Wanted symbols are lost
-  pub asked-is-lost : Within (askedSymbols code asked) (lost (code .layout) (asked .disk))
-  asked-is-lost = wanted-is-lost (code .layout) (asked .disk) (workable .disk-below) (asked .edition) (asked .wanted) (workable .list-good)
-
-  -- Each number listed is below 64
-  pub listed-small : (i : ℕ) → i < length (asked .wanted) → getD (asked .wanted) i 0 < 64
+module _ (code : LinearCode) (asked : Asked) {room : ℕ} (workable : Workable code asked room) where
+  -- Each number listed can be in a set
+  pub listed-small : (i : ℕ) → i < length (asked .wanted) → getD (asked .wanted) i 0 < setWidth
   listed-small i h = omega (arith, lost-below (code .layout) (asked .disk) _ (workable .list-good .each-allowed i h), workable .within .symbols-to)
 
-  module _ {n known wanted : ℕ} {cleared patterns remainder found : List ℕ} (given : EliminatedFor code asked n known wanted cleared patterns remainder found) where
-    abbrev rowsLeft : List ℕ
-    rowsLeft = surviving code (workable .within) asked (workable .disk-below) asked-is-lost
+  module _ {n known wanted : ℕ} {surviving found left : List ℕ} (given : EliminatedFor code asked n known wanted surviving found left) where
+    known-rows : knownRows code n known ≡ survivingRows code asked
+    known-rows = ap₂ (λ (set : ℕ → Bool) (m : ℕ). survivors set (take m (code .rows))) (fun-ext (given .known-are)) (given .count-is)
 
-    abbrev patternsLeft : List ℕ
-    patternsLeft = left code (workable .within) asked (workable .disk-below) asked-is-lost
+    -- Behind the last pattern zeros are left
+    pub left-zero-behind : ZeroBehind (code .data_symbols) left
+    left-zero-behind =
+        subst (ZeroBehind (code .data_symbols)) (sym (given .left-are))
+        (remaining-zero-behind (code .data_symbols) (unitPatterns (code .data_symbols)) (knownRows code n known) (unitPatterns-zero-behind (code .data_symbols)))
 
-    abbrev goals : List ℕ
-    goals = targets code (workable .within) asked (workable .disk-below) asked-is-lost
+    module _ {pattern : ℕ} (pattern-is : pattern ≡ oddPattern left (take n (code .rows)) (symbolsIn (has wanted) 0 n)) where
+      -- The pattern is the one that the laws speak of
+      is-found : pattern ≡ patternFound code asked
+      is-found =
+          pattern-is
+          ∙ ap (λ (l : List ℕ). oddPattern l (take n (code .rows)) (symbolsIn (has wanted) 0 n)) (given .left-are ∙ ap (remaining (unitPatterns (code .data_symbols))) known-rows)
+          ∙ ap₂ (λ (set : ℕ → Bool) (m : ℕ). oddPattern (patternsLeft code asked) (take m (code .rows)) (symbolsIn set 0 m)) (fun-ext (given .wanted-are)) (given .count-is)
 
-    abbrev steps : List Step
-    steps = stepsFound code (workable .within) asked (workable .disk-below) asked-is-lost
+      -- A pattern answered is a good one, and rules every plan out
+      pub worked-pattern : eqb pattern 0 ≡ false → (before : List ℕ) → Worked code asked before before (Gives (APattern pattern))
+      worked-pattern some before = (
+        subst (CannotBeRebuilt code asked) (sym is-found) (found-rules-plans-out code asked workable (λ none. eqb-false pattern 0 some (is-found ∙ none))),
+        refl,
+      )
 
-    -- The rows that were cleared are the survivors'
-    survivors-cleared : take n cleared ≡ rowsLeft
-    survivors-cleared =
-        ap (λ (m : ℕ). take m cleared) (given .count-is)
-        ∙ filled-are-survivors (code .layout) (asked .disk) (workable .disk-below) (code .rows) cleared (omega (arith, workable .within .symbols-to, workable .within .rows-held))
-        (omega (arith, workable .within .symbols-to, given .cleared-held))
-        (λ s. given .cleared-is s ∙ ap₂ (λ (m : ℕ) (c : Bool). cond (ltb s m) (cond c (getD (code .rows) s 0) 0) 0) (given .count-is) (given .known-are s))
+      module _ (none : eqb pattern 0 ≡ true) {subsets : List ℕ}
+          (subsets-are : subsets ≡ padded (wantedSubsets (take n found) (take n surviving) (take n (code .rows)) n (has wanted))) where
+        -- The subsets as the laws speak of them
+        abbrev asSolved : List ℕ
+        asSolved = wantedSubsets (pivotsFound code asked) (survivingRows code asked) (matrix code) (symbols code) (askedSymbols code asked)
 
-    -- The patterns that remain are those left by the survivors
-    remainder-is-left : remainder ≡ patternsLeft
-    remainder-is-left = given .remainder-is ∙ ap₂ remaining (given .patterns-are) survivors-cleared
+        are-solved : (t : ℕ) → getD subsets t 0 ≡ getD asSolved t 0
+        are-solved t =
+            ap (λ (l : List ℕ). getD l t 0)
+            (subsets-are
+            ∙ ap₂ (λ (a b : List ℕ). padded (wantedSubsets a b (take n (code .rows)) n (has wanted)))
+            (given .found-are ∙ ap (pivots (unitPatterns (code .data_symbols))) known-rows) (given .surviving-are ∙ known-rows)
+            ∙ ap₂ (λ (set : ℕ → Bool) (m : ℕ). padded (wantedSubsets (pivotsFound code asked) (survivingRows code asked) (take m (code .rows)) m set))
+            (fun-ext (given .wanted-are)) (given .count-is))
+            ∙ getD-padded asSolved t
 
-    -- The symbols of the set are the targets
-    targets-are : symbolsIn (has wanted) 0 n ≡ goals
-    targets-are = ap₂ (λ (set : ℕ → Bool) (m : ℕ). symbolsIn set 0 m) (fun-ext (given .wanted-are)) (given .count-is)
+        -- The steps from the subsets are elimination's
+        steps-are : subsetPlan (symbols code) (has wanted) subsets ≡ stepsFound code asked
+        steps-are =
+            ap (λ (set : ℕ → Bool). subsetPlan (symbols code) set subsets) (fun-ext (given .wanted-are))
+            ∙ planOf-same (λ t. getD subsets t 0) (subsetOf code asked) (symbols code) (targets code asked) same
+          where
+            same : (t : ℕ) → List·Memᴰ t (targets code asked) → getD subsets t 0 ≡ subsetOf code asked t
+            same t m =
+                let is-wanted = target-wanted code asked workable t m in
+                are-solved t
+                ∙ getD-subsets (pivotsFound code asked) (survivingRows code asked) (matrix code) (symbols code) (askedSymbols code asked) t
+                (lost-below (code .layout) (asked .disk) t (asked-is-lost code asked workable t is-wanted))
+                ∙ ap (λ (c : Bool). cond c (subsetOf code asked t) 0) is-wanted
 
-    -- The pattern looked for is the one that the laws speak of
-    looked-for : {pattern : ℕ} → pattern ≡ oddPattern remainder (code .rows) (symbolsIn (has wanted) 0 n) → pattern ≡ oddPattern patternsLeft (code .rows) goals
-    looked-for e = e ∙ ap₂ (λ (l m : List ℕ). oddPattern l (code .rows) m) remainder-is-left targets-are
-
-    -- A pattern answered is a good one, and rules every plan out
-    pub worked-pattern : {pattern : ℕ} → pattern ≡ oddPattern remainder (code .rows) (symbolsIn (has wanted) 0 n) → eqb pattern 0 ≡ false
-        → (before : List ℕ) → Worked code asked before before (Gives (APattern pattern))
-    worked-pattern {pattern} e some before = (
-      subst (CannotBeRebuilt code asked) (sym (looked-for e))
-          (found-rules-plans-out code (workable .within) asked (workable .disk-below) asked-is-lost (λ none. eqb-false pattern 0 some (looked-for e ∙ none))),
-      refl,
-    )
-
-    module _ (subsets : List ℕ)
-        (subsets-are : FilledTo n (λ t. cond (has wanted t) (backSubstitute (take n found) (take n cleared) (getD (code .rows) t 0)) 0) subsets) where
-      -- Back substitution was done with elimination's pivots
-      substituted : (v : ℕ) → backSubstitute (take n found) (take n cleared) v ≡ backSubstitute (pivots (unitPatterns (code .data_symbols)) rowsLeft) rowsLeft v
-      substituted v =
-          ap₂ (λ (a b : List ℕ). backSubstitute a b v)
-          (given .found-are ∙ ap₂ pivots (given .patterns-are) survivors-cleared) survivors-cleared
-
-      -- Each subset is below 2 to the N
-      subsets-below : (t : ℕ) → getD subsets t 0 < 2 ^ symbols code
-      subsets-below t =
-          let subset = backSubstitute (take n found) (take n cleared) (getD (code .rows) t 0) in
-          let none = pow-pos (symbols code) in
-          let some = subst (λ (x : ℕ). x < 2 ^ symbols code) (sym (substituted (getD (code .rows) t 0)))
-          (subsetFor-row-below code (workable .within) asked (workable .disk-below) asked-is-lost (getD (code .rows) t 0)) in
-          subst (λ (x : ℕ). x < 2 ^ symbols code) (sym (subsets-are t))
-          (bool-cases (λ c. cond c (cond (has wanted t) subset 0) 0 < 2 ^ symbols code)
-          (bool-cases (λ c. cond c subset 0 < 2 ^ symbols code) some none (has wanted t)) none (ltb t n))
-
-      -- The steps from the subsets are elimination's
-      steps-are : subsetPlan (symbols code) (has wanted) subsets ≡ steps
-      steps-are =
-          ap (λ (set : ℕ → Bool). subsetPlan (symbols code) set subsets) (fun-ext (given .wanted-are))
-          ∙ planOf-same (λ t. getD subsets t 0) (subsetOf code (workable .within) asked (workable .disk-below) asked-is-lost) (symbols code) goals same
-        where
-          same : (t : ℕ) → List·Memᴰ t goals → getD subsets t 0 ≡ subsetOf code (workable .within) asked (workable .disk-below) asked-is-lost t
-          same t m =
-              let is-wanted = target-wanted code (workable .within) asked (workable .disk-below) asked-is-lost t m in
-              let below = lost-below (code .layout) (asked .disk) t (asked-is-lost t is-wanted) in
-              subsets-are t
-              ∙ ap₂ (λ (c d : Bool). cond c (cond d (backSubstitute (take n found) (take n cleared) (getD (code .rows) t 0)) 0) 0)
-              (lt-ltb t n (omega (arith, below, given .count-is))) (given .wanted-are t ∙ is-wanted)
-              ∙ substituted (getD (code .rows) t 0)
-              ∙ ap (backSubstitute (pivots (unitPatterns (code .data_symbols)) rowsLeft) rowsLeft)
-              (sym (matrix-row code (workable .within) asked (workable .disk-below) asked-is-lost t is-wanted))
-
-      module _ {pattern : ℕ} (pattern-is : pattern ≡ oddPattern remainder (code .rows) (symbolsIn (has wanted) 0 n)) (none : eqb pattern 0 ≡ true) where
-        -- The steps keep every rule of the check
-        pub subset-steps-right : RightSteps code asked (sourceCount (symbols code) (subsetPlan (symbols code) (has wanted) subsets)) (subsetPlan (symbols code) (has wanted) subsets)
+        -- They keep every rule of the check
+        subset-steps-right : RightSteps code asked (sourceCount (symbols code) (subsetPlan (symbols code) (has wanted) subsets)) (subsetPlan (symbols code) (has wanted) subsets)
         subset-steps-right =
             subst (λ (plan : List Step). RightSteps code asked (sourceCount (symbols code) plan) plan) (sym steps-are)
-            (steps-right code (workable .within) asked (workable .disk-below) asked-is-lost (sym (looked-for pattern-is) ∙ eqb-true pattern 0 none))
+            (steps-right code asked workable (sym is-found ∙ eqb-true pattern 0 none))
 
         -- They fit the sheet and the buffer
         pub plan-fits : PlanFits (asked .edition) (code .layout) (code .data_symbols) (asked .disk) (asked .wanted) (has wanted) subsets room
@@ -149,22 +132,25 @@ module _ (code : Code) (asked : Asked) {room : ℕ} (workable : Workable code as
             let within = workable .within in
             let few : length (asked .wanted) ≤ 32 = omega (arith, workable .list-good .count-to, height-of-at-most (code .layout) (asked .disk) (within .height-to)) in
             record {
-              edition-to = edition-small (asked .edition) (asked .wanted) (workable .edition-fits);
-              disk-within = record { disk-below = workable .disk-below; disks-to = within .disks-to; height-to = within .height-to; symbols-to = within .symbols-to };
-              data-to = within .data-to;
+              edition-to = omega (arith, edition-small (asked .edition) (asked .wanted) (workable .edition-fits));
+              disk-within = disk-within code within (asked .disk) (workable .disk-below);
+              data-to = omega (arith, within .data-to);
               list-to = omega (arith, few);
-              subsets-below = subsets-below;
+              subsets-below =
+                  λ t.
+                  subst (λ (subset : ℕ). subset < 2 ^ symbols code) (sym (are-solved t))
+                  (subst (λ (m : ℕ). getD asSolved t 0 < 2 ^ m) (survivors-counted code asked workable)
+                  (subsets-below (pivotsFound code asked) (survivingRows code asked) (matrix code) (symbols code) (askedSymbols code asked) t));
               steps-fit = subset-steps-right .fit;
               room = omega (arith, subset-steps-right .fit, head-room (asked .edition) (asked .wanted) few, workable .room);
             }
 
         -- A sheet written from them is a good plan's
-        pub worked-plan : {sheetBytes reads : ℕ} {before after : List ℕ}
-            → sheetBytes ≡ headBytes (asked .edition) (asked .wanted) + stepsLength (length (subsetPlan (symbols code) (has wanted) subsets))
-            → reads ≡ sourceCount (symbols code) (subsetPlan (symbols code) (has wanted) subsets)
-            → after ≡ planSheet (headFor (asked .edition) (code .layout) (code .data_symbols) (asked .disk) reads) (asked .wanted) (subsetPlan (symbols code) (has wanted) subsets) ++ drop sheetBytes before
+        pub worked-plan : {sheetBytes reads : ℕ} {before after : List ℕ} → reads ≡ sourceCount (symbols code) (subsetPlan (symbols code) (has wanted) subsets)
+            → sheetBytes ≡ length (sheetOf code asked reads (subsetPlan (symbols code) (has wanted) subsets))
+            → after ≡ atFront (sheetOf code asked reads (subsetPlan (symbols code) (has wanted) subsets)) before
             → Worked code asked before after (Gives (APlan sheetBytes reads))
-        worked-plan length-is reads-are first-sheet =
+        worked-plan reads-are length-is first-sheet =
             record {
               steps = subsetPlan (symbols code) (has wanted) subsets;
               right = subst (λ (count : ℕ). RightSteps code asked count (subsetPlan (symbols code) (has wanted) subsets)) (sym reads-are) subset-steps-right;

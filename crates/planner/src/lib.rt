@@ -2,7 +2,7 @@
 ghost use mathlib.Core.Path.{_≡_};
 ghost use mathlib.Core.List.{_++_};
 ghost use lib.ListN.{length};
-ghost use Rattle.codes.specs.Codes.{WithinLimits};
+ghost use Rattle.codes.specs.Codes.{linear, WithinLimits};
 ghost use Rattle.lists.specs.Lists.{listOrder};
 ghost use Rattle.plans.specs.Judgement.{leastWanted};
 ghost use Rattle.refusals.specs.Orders.{Fine, outcome, andThen, firstOf, outcomeOf};
@@ -10,28 +10,23 @@ ghost use Rattle.refusals.specs.Refusals.{_at_};
 ghost use Rattle.planner.specs.Planning.{wholeDisk, listedOn, leastBuffer, roomFaults, planningFaults, planningVerdict, asPlanned, BufferLeft};
 ghost use Rattle.planner.specs.Demand3.{Demand3, PlansWhereAnyCould, RulesSayDemand2, Promised};
 ghost use Rattle.planner.specs.InnerWork.{Workable, Worked};
-ghost use Rattle.writing.specs.InnerPlanSheets.{EditionFits};
-
-mod sets;
-
+ghost use Rattle.plan_sheets.specs.InnerPlanSheets.{EditionFits};
 use bits::BitSet;
 use bits::is_empty;
+use code_sheets::Reading;
+use code_sheets::read_code;
 use codes::Code;
-use elimination::eliminate;
-use elimination::unit_patterns;
 use lists::first_bad;
 use lists::list_test;
+use plan_sheets::write_plan;
 use plans::loss::least_wanted;
 use plans::loss::loss_of_disk;
 use plans::loss::loss_of_plan;
 use refusals::Refusal;
 use refusals::Verdict;
-use sets::odd_pattern;
-use sets::surviving_rows;
-use sets::wanted_subsets;
-use sheets::Reading;
-use sheets::read_code;
-use writing::write_plan;
+use solve::eliminate_known;
+use solve::odd_pattern;
+use solve::wanted_subsets;
 
 // What planning answers: a plan sheet's length and read count, a pattern that shows why there is no plan, or the first refusal.
 pub enum Planned {
@@ -83,7 +78,7 @@ fn plan_test(
     wanted: &[u8],
     buffer_length: usize,
 ) -> Verdict
-    requires { ⌜ (outcome (reading .verdict) ≡ Fine → WithinLimits (reading .code)) ⌝ }
+    requires { ⌜ (outcome (reading .verdict) ≡ Fine → WithinLimits (linear (reading .code))) ⌝ }
     ensures { λ r. ⌜ outcome r ≡ andThen (outcome (reading .verdict)) (planningFaults (reading .code .layout) (record { edition = edition; disk = disk; wanted = now (wanted .entry) }) «buffer_length») ⌝ }
 {
     let read = reading.verdict;
@@ -102,8 +97,8 @@ fn plan_test(
 
 // Elimination over the surviving rows. The sheet is written only when every wanted row is known to have its subset.
 fn plan_code(code: Code, edition: usize, disk: usize, list: &[u8], buffer: &mut [u8]) -> Planned
-    requires { ⌜ Workable code (record { edition = edition; disk = disk; wanted = now list }) (length (now buffer)) ⌝ }
-    ensures { λ r. ⌜ Worked code (record { edition = edition; disk = disk; wanted = now (list .entry) }) (now (buffer .entry)) (now (buffer .exit)) (asPlanned r) ⌝ }
+    requires { ⌜ Workable (linear code) (record { edition = edition; disk = disk; wanted = now list }) (length (now buffer)) ⌝ }
+    ensures { λ r. ⌜ Worked (linear code) (record { edition = edition; disk = disk; wanted = now (list .entry) }) (now (buffer .entry)) (now (buffer .exit)) (asPlanned r) ⌝ }
 {
     let layout = code.layout;
     let rows = code.rows;
@@ -112,16 +107,15 @@ fn plan_code(code: Code, edition: usize, disk: usize, list: &[u8], buffer: &mut 
     let symbols = loss.symbols;
     let survivors = loss.survivors;
     let wanted = loss.wanted;
-    let surviving = surviving_rows(rows, symbols, survivors);
-    let units = unit_patterns(data_symbols);
-    let eliminated = eliminate(units, data_symbols, surviving, symbols);
+    let eliminated = eliminate_known(rows, symbols, data_symbols, survivors);
     let remaining = eliminated.remaining;
     let pattern = odd_pattern(remaining, data_symbols, rows, symbols, wanted);
     if !is_empty(pattern) {
         return Planned::Pattern { pattern };
     }
     let pivots = eliminated.pivots;
-    let subsets = wanted_subsets(pivots, surviving, symbols, rows, wanted);
+    let surviving = eliminated.surviving;
+    let subsets = wanted_subsets(pivots, surviving, rows, symbols, wanted);
     let written = write_plan(
         edition,
         layout,

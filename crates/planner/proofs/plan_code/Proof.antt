@@ -1,103 +1,109 @@
--- `planner::plan_code` meets its contract: elimination over the survivors, then a pattern, or the sheet of the steps from the subsets. Assumes nothing.
-use mathlib.Core.Path.{sym, ap, _∙_}
-use mathlib.Core.List.{List}
-use Prim.Native.Nat.{ℕ, _≤_}
+-- `planner::plan_code` meets its contract: what the survivors say of the wanted symbols, then a pattern, or the sheet of the steps from the subsets.
+-- Assumes nothing.
+use mathlib.Core.Path.{sym, _∙_}
+use Prim.Native.Nat.{_≤_}
 use native.Mathlib.Omega.{arith}
-use lib.ListN.{getD}
 use borrow.Author.Tests.{not-true, not-false}
-use Rattle.elimination.proofs.PatternLaws.{unitPatterns-zero-behind}
+use Rattle.bits.specs.Numerals.{setWidth, numeral, numerals}
+use Rattle.codes.specs.Codes.{LinearCode, linear}
+use Rattle.codes.proofs.LimitLaws.{disk-within}
 use Rattle.planner.specs.Planning.{Asked}
-use Rattle.planner.proofs.ResultLaws.{EliminatedFor, listed-small, worked-pattern, plan-fits, worked-plan}
+use Rattle.planner.proofs.ResultLaws.{EliminatedFor, listed-small, left-zero-behind, worked-pattern, plan-fits, worked-plan}
 use Rattle.planner.proofs.plan_code.Statement.{statement}
 use Rattle.planner.proofs.plan_code.Tie as tie
 
--- What was asked
+-- What was asked, and of which code
 abbrev askedOf : tie.Start → Asked
 askedOf start = record { edition = start .args .edition; disk = start .args .disk; wanted = start .args .list .now }
 
+abbrev codeOf : tie.Start → LinearCode
+codeOf start = linear (start .args .code)
+
 loss-of-plan-requires : tie.Need-loss-of-plan-requires
 loss-of-plan-requires c κs =
-    let start = c .before .before .before .before in
-    let within = start .pre .within in (
-      record { disk-below = start .pre .disk-below; disks-to = within .disks-to; height-to = within .height-to; symbols-to = within .symbols-to },
-      listed-small (start .args .code) (askedOf start) (start .pre),
+    let began = c .before .before .before .before in (
+      disk-within (codeOf began) (began .pre .within) (began .args .disk) (began .pre .disk-below),
+      listed-small (codeOf began) (askedOf began) (began .pre),
     )
-
--- The array has 64 symbols at most
-symbols-small : (c : tie.After-loss-of-plan) → c .loss-of-plan .result .symbols ≤ 64
-symbols-small c = omega (arith, c .loss-of-plan .ensures .0, c .before .before .before .before .before .pre .within .symbols-to)
 
 -- What elimination gave
-eliminated : (c : tie.After-eliminate)
-    → EliminatedFor (c .before .before .before .before .before .before .before .before .args .code) (askedOf (c .before .before .before .before .before .before .before .before)) (c .before .before .before .loss-of-plan .result .symbols) (c .before .before .before .loss-of-plan .result .survivors)
-    (c .before .before .before .loss-of-plan .result .wanted) (c .before .before .surviving-rows .result) (c .before .unit-patterns .result) (c .eliminate .result .remaining) (c .eliminate .result .pivots)
+abbrev start : tie.After-eliminate-known → tie.Start
+start c = c .before .before .before .before .before .before .before .before
+
+eliminated : (c : tie.After-eliminate-known)
+    → EliminatedFor (codeOf (start c)) (askedOf (start c)) (c .before .before .before .loss-of-plan .result .symbols) (numeral (c .before .before .before .loss-of-plan .result .survivors))
+    (numeral (c .before .before .before .loss-of-plan .result .wanted)) (numerals (c .eliminate-known .result .surviving)) (numerals (c .eliminate-known .result .pivots))
+    (numerals (c .eliminate-known .result .remaining))
 eliminated c =
-    let loss = c .before .before .before .loss-of-plan in
+    let loss = c .before .before .before .loss-of-plan .ensures in
+    let solved = c .eliminate-known .ensures in
     record {
-      count-is = loss .ensures .0;
-      known-are = loss .ensures .1 .0;
-      wanted-are = loss .ensures .1 .1 .0;
-      cleared-held = c .before .before .surviving-rows .ensures .0;
-      cleared-is = c .before .before .surviving-rows .ensures .1;
-      patterns-are = c .before .unit-patterns .ensures;
-      remainder-is = c .eliminate .ensures .0;
-      found-are = c .eliminate .ensures .1;
+      count-is = loss .0;
+      known-are = loss .1 .0;
+      wanted-are = loss .1 .1 .0;
+      surviving-are = solved .0;
+      found-are = solved .1 .0;
+      left-are = solved .1 .1;
     }
 
-surviving-rows-requires : tie.Need-surviving-rows-requires
-surviving-rows-requires c κs = symbols-small c
+-- The array's symbols and its data symbols are few enough for a set
+symbols-small : (c : tie.After-loss-of-plan) → c .loss-of-plan .result .symbols ≤ setWidth
+symbols-small c = omega (arith, c .loss-of-plan .ensures .0, c .before .before .before .before .before .pre .within .symbols-to)
 
-unit-patterns-requires : tie.Need-unit-patterns-requires
-unit-patterns-requires c κs = c .before .before .before .before .before .before .pre .within .data-to
+data-small : (c : tie.Start) → c .args .code .data_symbols ≤ setWidth
+data-small c = omega (arith, c .pre .within .data-to)
 
-eliminate-requires : tie.Need-eliminate-requires
-eliminate-requires c κs =
-    let start = c .before .before .before .before .before .before .before in (
-      start .pre .within .data-to,
-      symbols-small (c .before .before),
-      λ i h. ap (λ (l : List ℕ). getD l i 0) (c .unit-patterns .ensures) ∙ unitPatterns-zero-behind (start .args .code .data_symbols) i h,
-    )
+eliminate-known-requires : tie.Need-eliminate-known-requires
+eliminate-known-requires c κs = (symbols-small (c .before .before), data-small (c .before .before .before .before .before .before .before))
 
 odd-pattern-requires : tie.Need-odd-pattern-requires
-odd-pattern-requires c κs = (c .before .before .before .before .before .before .before .before .before .pre .within .data-to, c .before .eliminate .ensures .2, symbols-small (c .before .before .before .before))
+odd-pattern-requires c κs =
+    let given = c .before in (
+      data-small (start given),
+      symbols-small (given .before .before .before),
+      left-zero-behind (codeOf (start given)) (askedOf (start given)) (start given .pre) (eliminated given),
+    )
 
 is-empty-requires : tie.Need-is-empty-requires
 is-empty-requires c κs = tt
 
 returns : tie.Need-returns
 returns c =
-    let start = c .before .before .before .before .before .before .before .before .before .before .before .before in
-    worked-pattern (start .args .code) (askedOf start) (start .pre) (eliminated (c .before .before .before .before))
-    (c .before .before .odd-pattern .ensures) (sym (c .before .is-empty .ensures) ∙ not-true _ (c .if1 .taken)) (start .args .buffer .now)
+    let given = c .before .before .before .before in
+    let began = start given in
+    worked-pattern (codeOf began) (askedOf began) (began .pre) (eliminated given) (c .before .before .odd-pattern .ensures)
+    (sym (c .before .is-empty .ensures) ∙ not-true _ (c .if1 .taken)) (began .args .buffer .now)
 
 wanted-subsets-requires : tie.Need-wanted-subsets-requires
-wanted-subsets-requires c κs = symbols-small (c .before .before .before .before .before .before .before .before)
+wanted-subsets-requires c κs = symbols-small (c .before .before .before .before .before .before .before .before .before)
 
 write-plan-requires : tie.Need-write-plan-requires
 write-plan-requires c κs =
-    let start = c .before .before .before .before .before .before .before .before .before .before .before .before .before .before .before in
-    plan-fits (start .args .code) (askedOf start) (start .pre) (eliminated (c .before .before .before .before .before .before .before)) (c .before .wanted-subsets .result) (c .before .wanted-subsets .ensures)
-    (c .before .before .before .before .before .odd-pattern .ensures) (sym (c .before .before .before .before .is-empty .ensures) ∙ not-false _ (c .before .before .before .if1 .left))
+    let tested = c .before .before .before .before in
+    let given = tested .before .before .before .before in
+    let began = start given in
+    plan-fits (codeOf began) (askedOf began) (began .pre) (eliminated given) (tested .before .before .odd-pattern .ensures)
+    (sym (tested .before .is-empty .ensures) ∙ not-false _ (tested .if1 .left)) (c .before .wanted-subsets .ensures)
 
 same-length : tie.Need-same-length
 same-length c = c .before .before .write-plan .kept .1 .1 .1 .1 .1 .1 .1 .0
 
 returns-2 : tie.Need-returns-2
 returns-2 c =
-    let start = c .before .before .before .before .before .before .before .before .before .before .before .before .before .before .before .before .before .before in
-    let subsets = c .before .before .before .before .wanted-subsets in
-    let written = c .before .before .write-plan in
-    worked-plan (start .args .code) (askedOf start) (start .pre) (eliminated (c .before .before .before .before .before .before .before .before .before .before)) (subsets .result) (subsets .ensures)
-    (c .before .before .before .before .before .before .before .before .odd-pattern .ensures) (sym (c .before .before .before .before .before .before .before .is-empty .ensures) ∙ not-false _ (c .before .before .before .before .before .before .if1 .left)) (written .ensures .0) (written .ensures .1 .0) (written .ensures .1 .1)
+    let tested = c .before .before .before .before .before .before .before in
+    let given = tested .before .before .before .before in
+    let began = start given in
+    let written = c .before .before .write-plan .ensures in
+    worked-plan (codeOf began) (askedOf began) (began .pre) (eliminated given) (tested .before .before .odd-pattern .ensures)
+    (sym (tested .before .is-empty .ensures) ∙ not-false _ (tested .if1 .left)) (c .before .before .before .before .wanted-subsets .ensures)
+    (written .0) (written .1 .0) (written .1 .1)
 
 pub plan-code-spec : {M : Type 1} → statement M
 plan-code-spec =
     tie.close
     (tie.spec
     loss-of-plan-requires
-    surviving-rows-requires
-    unit-patterns-requires
-    eliminate-requires
+    eliminate-known-requires
     odd-pattern-requires
     is-empty-requires
     returns
