@@ -5,6 +5,7 @@ use Prim.Native.Nat.{ℕ, _+_, _-_, _≤_, _<_}
 use native.Mathlib.Omega.{arith}
 use lib.ListN.{length, take, drop, length-drop, drop-of-length-le}
 use lib.Seq.{take-all, take-nil, drop-drop}
+use Rattle.sheets.proofs.PartLaws.{part-to-end, part-whole}
 use Rattle.lines.specs.Lines.{sheetLengthIn, codeSheetIn, planSheetIn}
 
 -- Under three bytes of input count as an empty code sheet
@@ -23,22 +24,15 @@ pub plan-sheet-empty-past-end : (input : List ℕ) → length input ≤ 3 + shee
 unfolding planSheetIn
 plan-sheet-empty-past-end input h = drop-of-length-le (drop 3 input) {i = sheetLengthIn input} (simp length-drop (omega arith))
 
--- A part from a place to the end is all behind that place
-take-to-end : (input : List ℕ) (at : ℕ) → take (length input - at) (drop at input) ≡ drop at input
-take-to-end input at = take-all (length input - at) (drop at input) (simp length-drop (omega arith))
-
 module _ (input : List ℕ) (size : ℕ) (e : size ≡ sheetLengthIn input) where
   -- The code sheet as a part that the end cuts off
   pub code-sheet-cut : length input < 3 + size → take (length input - 3) (drop 3 input) ≡ codeSheetIn input
-  code-sheet-cut h = take-to-end input 3 ∙ sym (code-sheet-is-the-rest input (omega arith))
+  code-sheet-cut h = part-to-end input 3 ∙ sym (code-sheet-is-the-rest input (omega arith))
 
   -- The code sheet as a part of its length
   pub code-sheet-whole : take (3 + size - 3) (drop 3 input) ≡ codeSheetIn input
   unfolding codeSheetIn
-  code-sheet-whole = ap (λ (n : ℕ). take n (drop 3 input)) lengths
-    where
-      lengths : 3 + size - 3 ≡ sheetLengthIn input
-      lengths = omega arith
+  code-sheet-whole = part-whole input 3 size ∙ ap (λ (n : ℕ). take n (drop 3 input)) e
 
   -- No plan sheet where the end cuts the code sheet off
   pub plan-sheet-cut : length input < 3 + size → [] ≡ planSheetIn input
@@ -48,4 +42,4 @@ module _ (input : List ℕ) (size : ℕ) (e : size ≡ sheetLengthIn input) wher
   pub plan-sheet-to-end : take (length input - (3 + size)) (drop (3 + size) input) ≡ planSheetIn input
   unfolding planSheetIn
   plan-sheet-to-end =
-      take-to-end input (3 + size) ∙ sym (drop-drop size 3 input) ∙ ap (λ (n : ℕ). drop n (drop 3 input)) e
+      part-to-end input (3 + size) ∙ sym (drop-drop size 3 input) ∙ ap (λ (n : ℕ). drop n (drop 3 input)) e

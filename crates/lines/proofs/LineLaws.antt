@@ -3,22 +3,21 @@ use mathlib.Core.Path.{_≡_, sym, ap, ap₂, _∙_}
 use mathlib.Core.Bool.{Bool, true, false, cond}
 use mathlib.Core.List.{List, _++_}
 use Prim.Native.Nat.{ℕ, _+_, _≤_, _<_}
-use native.Mathlib.Nat.{zero-add}
-use native.Mathlib.Numerals.{add-one}
 use native.Mathlib.Omega.{arith}
 use borrow.Author.Tests.{le-leb, lt-leb}
 use lib.Dec.{leb}
 use lib.ListN.{length, take, drop, getD, set, length-append}
-use lib.Seq.{paste-suc, getD-take, take-length, length-take-le}
+use lib.Seq.{getD-take, length-take-le}
+use Rattle.bits.proofs.StoreLaws.{overwritten, overwritten-more, overwritten-front}
 use Rattle.plans.specs.Check.{checked}
-use Rattle.codes.specs.declared.Code.{Code}
+use Rattle.codes.specs.Codes.{LinearCode}
 use Rattle.lines.specs.Lines.{codeLine, refusalLine, codeSheetIn, planSheetIn, diskIn, linesOf, deskText, writtenLength, writtenOver}
 use Rattle.texts.specs.InnerTexts.{textOf, Holds}
 use Rattle.texts.specs.declared.Text.{Text}
 use Rattle.texts.proofs.TextLaws.{length-textOf}
 use Rattle.refusals.specs.Refusals.{Numbered}
 use Rattle.refusals.specs.Orders.{Outcome, Fine, Refused, Answer}
-use Rattle.sheets.specs.CodeReading.{CodeRead, reading}
+use Rattle.code_sheets.specs.CodeReading.{CodeRead, reading}
 
 -- ------------------------------------------------------------------
 -- What the text is
@@ -45,7 +44,7 @@ module _ (input sheet : List ℕ) (read : CodeRead) (as-sheet : sheet ≡ codeSh
       checked-so = cc
 
 -- The lines of any verdict and answer are not empty
-lines-not-empty : (verdict : Outcome) (code : Code) (disk : ℕ) (answer : Answer ℕ) → 0 < length (linesOf verdict code disk answer)
+lines-not-empty : (verdict : Outcome) (code : LinearCode) (disk : ℕ) (answer : Answer ℕ) → 0 < length (linesOf verdict code disk answer)
 unfolding refusalLine codeLine
 lines-not-empty (Refused refusal) code disk answer = simp length-append (omega arith)
 lines-not-empty Fine code disk answer = simp length-append (omega arith)
@@ -60,10 +59,6 @@ text-not-empty input =
 -- ------------------------------------------------------------------
 -- The text in a buffer
 
--- A buffer with the first bytes of a text copied to its front
-abbrev pub copied : List ℕ → List ℕ → ℕ → List ℕ
-copied out text i = take i text ++ drop i out
-
 module _ (text : Text) (size : length (text .bytes) ≡ 160) (within : text .len ≤ 160) (out : List ℕ) where
   -- Where there is no room, nothing is written
   pub no-room : length out < text .len → (0 ≡ writtenLength (textOf text) out) × (out ≡ writtenOver (textOf text) out)
@@ -73,29 +68,23 @@ module _ (text : Text) (size : length (text .bytes) ≡ 160) (within : text .len
       short : length out < length (textOf text)
       short = omega (arith, length-textOf text size within)
 
-  -- One byte more is copied
-  pub copied-more : (new : List ℕ) (i : ℕ) → text .len ≤ length out → i < text .len → new ≡ copied out (textOf text) i
-      → set new i (getD (text .bytes) i 0) ≡ copied out (textOf text) (i + 1)
-  copied-more new i room h e =
-      ap₂ (λ (l : List ℕ) (byte : ℕ). set l i byte) e (sym (getD-take (text .len) (text .bytes) i 0 h))
-      ∙ simp zero-add at (paste-suc out 0 (textOf text) i 0 (omega arith) (omega (arith, length-textOf text size within)))
-      ∙ ap (copied out (textOf text)) (sym (add-one i))
+  module _ (room : text .len ≤ length out) (new : List ℕ) (i : ℕ) (e : new ≡ overwritten out (textOf text) i) where
+    len : length (textOf text) ≡ text .len
+    len = length-textOf text size within
 
-  -- All bytes are copied
-  pub copied-whole : (new : List ℕ) (i : ℕ) → text .len ≤ length out → i ≡ text .len → new ≡ copied out (textOf text) i
-      → (text .len ≡ writtenLength (textOf text) out) × (new ≡ writtenOver (textOf text) out)
-  unfolding writtenLength writtenOver
-  copied-whole new i room h e =
-      let fits = le-leb (length (textOf text)) (length out) (omega (arith, len)) in
-      (sym len ∙ simp fits, whole ∙ simp fits)
-    where
-      len : length (textOf text) ≡ text .len
-      len = length-textOf text size within
+    fits : length (textOf text) ≤ length out
+    fits = omega (arith, len)
 
-      whole : new ≡ textOf text ++ drop (length (textOf text)) out
-      whole =
-          e ∙ ap (copied out (textOf text)) (h ∙ sym len)
-          ∙ ap (λ (l : List ℕ). l ++ drop (length (textOf text)) out) (take-length (textOf text))
+    -- One byte more is copied
+    pub copied-more : i < text .len → set new i (getD (text .bytes) i 0) ≡ overwritten out (textOf text) (i + 1)
+    copied-more h = overwritten-more out (textOf text) fits new i _ (omega (arith, len)) e (sym (getD-take (text .len) (text .bytes) i 0 h))
+
+    -- All bytes are copied
+    pub copied-whole : i ≡ text .len → (text .len ≡ writtenLength (textOf text) out) × (new ≡ writtenOver (textOf text) out)
+    unfolding writtenLength writtenOver
+    copied-whole all =
+        let has-room = le-leb (length (textOf text)) (length out) fits in
+        (sym len ∙ simp has-room, overwritten-front out (textOf text) fits new i (all ∙ sym len) e ∙ simp has-room)
 
 -- What the copy leaves, said of the text that was held
 pub copied-as : (text : Text) (piece out : List ℕ) {answer : ℕ} {new : List ℕ} → Holds text piece

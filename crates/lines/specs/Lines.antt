@@ -2,13 +2,15 @@
 -- and a plan sheet to the end; it checks and prints." Text is a list of ASCII codes.
 use mathlib.Core.Bool.{cond}
 use mathlib.Core.List.{List, [], _∷_, _++_}
-use Prim.Native.Nat.{ℕ, _+_, _*_}
+use Prim.Native.Nat.{ℕ, _+_}
 use lib.Dec.{leb}
 use lib.ListN.{length, take, drop, getD}
 use Rattle.plans.specs.Check.{checked}
-use Rattle.codes.specs.declared.Code.{Code}
+use Rattle.codes.specs.Codes.{LinearCode}
 use Rattle.refusals.specs.Orders.{Outcome, Fine, Refused, Answer, Gives, Refuses}
-use Rattle.sheets.specs.CodeReading.{reading}
+use Rattle.code_sheets.specs.CodeReading.{reading}
+use Rattle.sheets.specs.Buffers.{atFront}
+use Rattle.sheets.specs.Bytes.{twoBytesAt}
 use Rattle.texts.specs.Decimals.{labelled}
 
 -- ------------------------------------------------------------------
@@ -21,7 +23,7 @@ diskIn input = getD input 0 0
 
 -- Two bytes, low first, with the code sheet's length
 unfoldable pub sheetLengthIn : List ℕ → ℕ
-sheetLengthIn input = getD input 1 0 + 256 * getD input 2 0
+sheetLengthIn input = twoBytesAt input 1
 
 -- That sheet
 unfoldable pub codeSheetIn : List ℕ → List ℕ
@@ -62,7 +64,7 @@ answerLines (Gives reads) = acceptedLines reads
 answerLines (Refuses refusal) = refusalLine (refusal .number) (refusal .place)
 
 -- "If the code sheet is refused, the refusal line stands alone"; else the code, the disk and the answer
-abbrev pub linesOf : Outcome → Code → ℕ → Answer ℕ → List ℕ
+abbrev pub linesOf : Outcome → LinearCode → ℕ → Answer ℕ → List ℕ
 linesOf (Refused refusal) code disk answer = refusalLine (refusal .number) (refusal .place)
 linesOf Fine code disk answer =
     codeLine (code .layout .disks) (code .layout .height) (code .data_symbols) ++ diskLine disk ++ answerLines answer
@@ -82,4 +84,4 @@ writtenLength text out = cond (leb (length text) (length out)) (length text) 0
 
 -- The buffer afterwards
 unfoldable pub writtenOver : List ℕ → List ℕ → List ℕ
-writtenOver text out = cond (leb (length text) (length out)) (text ++ drop (length text) out) out
+writtenOver text out = cond (leb (length text) (length out)) (atFront text out) out

@@ -5,15 +5,17 @@ ghost use lib.ListN.{length};
 ghost use Rattle.lines.specs.Lines.{sheetLengthIn, codeSheetIn, planSheetIn, refusalLine, answerLines, linesOf, deskText, writtenLength, writtenOver};
 ghost use Rattle.refusals.specs.Refusals.{numbered};
 ghost use Rattle.refusals.specs.Orders.{Fine};
+ghost use Rattle.codes.specs.Codes.{linear};
 ghost use Rattle.plans.specs.Check.{asChecked};
 ghost use Rattle.texts.specs.InnerTexts.{textOf, HasRoom, Extended, Holds};
 use checker::Checked;
 use checker::check;
+use code_sheets::read_code;
 use codes::Code;
 use refusals::Refusal;
 use refusals::Verdict;
 use sheets::byte_at;
-use sheets::read_code;
+use sheets::two_bytes_at;
 use texts::Text;
 
 mod push; // push.rt: the lines, one by one
@@ -27,7 +29,7 @@ use push::push_refusal;
 fn sheet_length(input: &[u8]) -> usize
     ensures { λ r. ⌜ (r ≡ sheetLengthIn (now (input .entry))) × (r < 65536) ⌝ }
 {
-    byte_at(input, 1) + 256 * byte_at(input, 2)
+    two_bytes_at(input, 1)
 }
 
 // The code sheet, or what there is of it.
@@ -75,7 +77,7 @@ fn refusal_text(refusal: Refusal) -> Text
 
 // The lines for a code sheet that was read: the code, the disk, the answer.
 fn report(code: Code, disk: usize, answer: Checked) -> Text
-    ensures { λ r. ⌜ Holds r (linesOf Fine code disk (asChecked answer)) ⌝ }
+    ensures { λ r. ⌜ Holds r (linesOf Fine (linear code) disk (asChecked answer)) ⌝ }
 {
     let layout = code.layout;
     let opening = push_code(

@@ -3,12 +3,13 @@ use Prim.Native.Nat.{_-_, _≤_}
 use mathlib.Core.Path.{_≡_, refl}
 use native.Mathlib.Omega.{arith}
 use lib.ListN.{length, take, length-set}
-use Rattle.lines.proofs.LineLaws.{copied, no-room, copied-more, copied-whole}
+use Rattle.bits.proofs.StoreLaws.{overwritten}
+use Rattle.lines.proofs.LineLaws.{no-room, copied-more, copied-whole}
 use Rattle.lines.proofs.copy_text.Statement.{statement}
 use Rattle.lines.proofs.copy_text.Tie as tie
 
 abbrev Inv-loop : tie.InvT-loop
-Inv-loop out₀ bytes len i₀ out i = (i ≤ len) × (length out ≡ length out₀) × (out ≡ copied out₀ (take len bytes) i)
+Inv-loop out₀ bytes len i₀ out i = (i ≤ len) × (length out ≡ length out₀) × (out ≡ overwritten out₀ (take len bytes) i)
 
 abbrev μ-loop : tie.MeasureT-loop
 μ-loop out₀ bytes len i₀ out i = len - i
@@ -37,7 +38,7 @@ loop-again : tie.Need-loop-again Inv-loop μ-loop
 loop-again c =
     let start = c .before .before .before .before in
     let loop = c .before .loop in
-    (omega arith, simp length-set (omega arith), copied-more (start .args .text) (start .pre .0) (start .pre .1) (start .args .out .now) _ _ (omega arith) (omega arith) (loop .inv .2))
+    (omega arith, simp length-set (omega arith), copied-more (start .args .text) (start .pre .0) (start .pre .1) (start .args .out .now) (omega arith) _ _ (loop .inv .2) (omega arith))
 
 same-length : tie.Need-same-length Inv-loop μ-loop
 same-length c = omega arith
@@ -46,7 +47,7 @@ returns-2 : tie.Need-returns-2 Inv-loop μ-loop
 returns-2 c =
     let start = c .before .before .before .before in
     let loop = c .before .loop in
-    copied-whole (start .args .text) (start .pre .0) (start .pre .1) (start .args .out .now) _ (loop .i) (omega arith) (omega arith) (loop .inv .2)
+    copied-whole (start .args .text) (start .pre .0) (start .pre .1) (start .args .out .now) (omega arith) _ (loop .i) (loop .inv .2) (omega arith)
 
 pub copy-text-spec : {M : Type 1} → statement M
 copy-text-spec =

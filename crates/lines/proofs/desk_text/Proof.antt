@@ -3,7 +3,7 @@ use Rattle.lines.proofs.LineLaws.{text-if-refused, text-if-fine}
 use Rattle.texts.proofs.TextLaws.{holds-as}
 use mathlib.Core.Path.{ap}
 use Rattle.refusals.specs.Orders.{outcome}
-use Rattle.sheets.specs.CodeReading.{asRead}
+use Rattle.code_sheets.specs.CodeReading.{asRead}
 use borrow.Author.Needs.{needs}
 use Rattle.lines.proofs.desk_text.Statement.{statement}
 use Rattle.lines.proofs.desk_text.Tie as tie
