@@ -19,7 +19,7 @@ use Rattle.families.specs.FamilySheets.{familyAnswer, familyBuffer, ReadsBack}
 use Rattle.family_codes.specs.declared.Family.{Family}
 use Rattle.refusals.specs.Orders.{Outcome, Fine, Refused, outcome, ifFine, Answer, Gives}
 use Rattle.refusals.specs.declared.Verdict.{Verdict}
-use Rattle.sheets.specs.CodeReading.{CodeRead}
+use Rattle.code_sheets.specs.CodeReading.{CodeRead}
 use Rattle.views.specs.Places.{nowhere, stripPart, stripPlace, sliceOf, Shows}
 use Rattle.views.specs.Views.{layoutOf, stripVerdict}
 use Rattle.views.specs.declared.Part.{Part}

@@ -14,6 +14,7 @@
 // Where one of these is not so, its word begins with "not-".
 ghost use mathlib.Core.Path.{_≡_};
 ghost use lib.ListN.{length};
+use bits::low_word;
 use checker::Checked;
 use libc::STDIN_FILENO;
 use planner::Planned;
@@ -254,7 +255,8 @@ fn print_answer(record: &[u8], disk: usize, planned: Planned, buffer: &[u8], cop
             same_behind(buffer, copy, length),
         ),
         Planned::Pattern { pattern } => {
-            print_pattern(pattern, same(buffer, copy), is_good(record, disk, pattern))
+            let number = low_word(pattern);
+            print_pattern(number, same(buffer, copy), is_good(record, disk, number))
         }
         Planned::Refused(refusal) => print_refused(refusal, same(buffer, copy)),
     }

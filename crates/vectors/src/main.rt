@@ -15,6 +15,9 @@
 ghost use mathlib.Core.Path.{_≡_};
 ghost use Prim.Native.Nat.{_≤_, _<_};
 ghost use lib.ListN.{length};
+ghost use Rattle.bits.specs.Numerals.{setWidth};
+use bits::BitSets;
+use bits::low_word;
 use checker::Checked;
 use codes::Code;
 use families::Family;
@@ -104,13 +107,13 @@ fn row_count(disks: usize, height: usize) -> usize
     symbols
 }
 
-fn print_rows(rows: [u64; 64], count: usize)
-    requires { ⌜ count ≤ 64 ⌝ }
+fn print_rows(rows: BitSets, count: usize)
+    requires { ⌜ count ≤ setWidth ⌝ }
 {
     print(b" rows");
     let mut i = 0;
     while i < count {
-        print_number(rows[i]);
+        print_number(low_word(rows[i]));
         i += 1;
     }
 }
@@ -126,7 +129,7 @@ fn print_code(code: Code) {
 }
 
 fn read(record: &[u8]) {
-    let reading = sheets::read_code(rest_at(record, 1));
+    let reading = code_sheets::read_code(rest_at(record, 1));
     let verdict = reading.verdict;
     let code = reading.code;
     match verdict {

@@ -1,8 +1,10 @@
 -- `capi::out_planned` meets its contract, by cases on what planning answered. Assumes nothing.
-use mathlib.Core.Path.{sym, ap, ap₂, _∙_}
+use mathlib.Core.Path.{sym, ap, ap₂, subst, _∙_}
 use Prim.Native.Nat.{ℕ}
+use native.Mathlib.Nat.{mod-eq-of-lt}
 use borrow.Author.Needs.{needs}
 use Rattle.capi.specs.Answers.{outPlanned}
+use Rattle.capi.specs.InnerFits.{PatternFits}
 use Rattle.capi.specs.declared.OutPlanned.{OutPlanned}
 use Rattle.planner.specs.Planning.{asPlanned}
 use Rattle.planner.specs.declared.Planned.{Planned}
@@ -18,6 +20,9 @@ enum-known-planned-2 c = search needs
 enum-known-planned-3 : tie.Need-enum-known-planned-3
 enum-known-planned-3 c = search needs
 
+low-word-requires : tie.Need-low-word-requires
+low-word-requires c κs = tt
+
 number-requires : tie.Need-number-requires
 number-requires c κs = tt
 
@@ -32,11 +37,18 @@ out answer = outPlanned (asPlanned answer)
 abbrev refused : ℕ → ℕ → OutPlanned
 refused number place = record { number = number; place = place; length = 0; reads = 0; pattern = 0 }
 
+-- A pattern, and nothing else
+abbrev shown : ℕ → OutPlanned
+shown pattern = record { number = 0; place = 0; length = 0; reads = 0; pattern = pattern }
+
 returns : tie.Need-returns
 returns c = sym (ap out (c .before .planned .given .1))
 
 returns-2 : tie.Need-returns-2
-returns-2 c = sym (ap out (c .before .planned2 .given .1))
+returns-2 c =
+    let known = c .before .before .planned2 .given .1 in
+    let fits = subst (λ (answer : Planned). PatternFits (asPlanned answer)) known (c .before .before .before .before .pre) in
+    ap shown (c .low-word .ensures ∙ mod-eq-of-lt fits) ∙ sym (ap out known)
 
 returns-3 : tie.Need-returns-3
 returns-3 c =
@@ -49,6 +61,7 @@ out-planned-spec =
     (tie.spec
     enum-known-planned
     enum-known-planned-2
+    low-word-requires
     enum-known-planned-3
     number-requires
     place-requires

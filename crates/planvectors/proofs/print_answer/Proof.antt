@@ -18,6 +18,9 @@ print-plan-requires c κs = tt
 enum-known-planned-2 : tie.Need-enum-known-planned-2
 enum-known-planned-2 c = search needs
 
+low-word-requires : tie.Need-low-word-requires
+low-word-requires c κs = tt
+
 same-requires : tie.Need-same-requires
 same-requires c κs = tt
 
@@ -54,6 +57,7 @@ print-answer-spec =
     same-behind-requires
     print-plan-requires
     enum-known-planned-2
+    low-word-requires
     same-requires
     is-good-requires
     print-pattern-requires

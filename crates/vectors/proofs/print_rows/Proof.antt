@@ -20,11 +20,14 @@ print-requires c κs = search needs
 loop-holds : tie.Need-loop-holds Inv-loop μ-loop
 loop-holds c = omega arith
 
-mul-print-number : tie.Need-mul-print-number Inv-loop μ-loop
-mul-print-number c = omega arith
+mul-low-word : tie.Need-mul-low-word Inv-loop μ-loop
+mul-low-word c = omega arith
 
-array-read-print-number : tie.Need-array-read-print-number Inv-loop μ-loop
-array-read-print-number c = omega arith
+array-copy-out-low-word : tie.Need-array-copy-out-low-word Inv-loop μ-loop
+array-copy-out-low-word c = omega arith
+
+low-word-requires : tie.Need-low-word-requires Inv-loop μ-loop
+low-word-requires c κs = tt
 
 print-number-requires : tie.Need-print-number-requires Inv-loop μ-loop
 print-number-requires c κs = search needs
@@ -50,8 +53,9 @@ print-rows-spec =
     slice-aggregate-print
     print-requires
     loop-holds
-    mul-print-number
-    array-read-print-number
+    mul-low-word
+    array-copy-out-low-word
+    low-word-requires
     print-number-requires
     add-i
     loop-less
