@@ -308,25 +308,14 @@ mod simple {
         1000 + reads as u64
     }
 
-    /// Overlap by the processor's count of ones.
-    pub fn odd_by_count(a: u64, b: u64) -> bool {
+    /// Whether two rows overlap oddly, by the processor's count of ones.
+    fn odd(a: u64, b: u64) -> bool {
         (a & b).count_ones() % 2 == 1
-    }
-
-    /// Overlap bit by bit, as the proved leaf does it today.
-    pub fn odd_by_bits(a: u64, b: u64) -> bool {
-        let (set, mut ones) = (a & b, 0);
-        for bit in 0..64 {
-            if (set >> bit) % 2 == 1 {
-                ones += 1;
-            }
-        }
-        ones % 2 == 1
     }
 
     /// Planning by the same method: patterns reduced row by row, then back substitution.
     #[inline(never)]
-    pub fn plan(sheet: &[u8], disk: usize, buffer: &mut [u8], odd: impl Fn(u64, u64) -> bool) -> u64 {
+    pub fn plan(sheet: &[u8], disk: usize, buffer: &mut [u8]) -> u64 {
         let code = match read(sheet) {
             Ok(code) => code,
             Err(number) => return number,
@@ -544,12 +533,10 @@ fn encoding(sheet: &[u8], size: usize) {
 fn planning(what: &str, sheet: &[u8], answer: u64) {
     let (mut ours, mut theirs) = (vec![1u8; 3081], vec![1u8; 3081]);
     assert_eq!(proved::plan(sheet, 0, &mut ours), answer);
-    assert_eq!(simple::plan(sheet, 0, &mut theirs, simple::odd_by_count), answer);
+    assert_eq!(simple::plan(sheet, 0, &mut theirs), answer);
     assert!(ours == theirs, "the two planners disagree");
-    let by_bits = || simple::plan(sheet, 0, &mut theirs, simple::odd_by_bits);
-    row(&format!("plan, {what}"), "simple Rust, overlap bit by bit", interleaved(10, || proved::plan(sheet, 0, &mut ours), by_bits));
-    let by_count = || simple::plan(sheet, 0, &mut theirs, simple::odd_by_count);
-    row(&format!("plan, {what}"), "simple Rust, count of ones", interleaved(10, || proved::plan(sheet, 0, &mut ours), by_count));
+    let theirs = || simple::plan(sheet, 0, &mut theirs);
+    row(&format!("plan, {what}"), "simple Rust", interleaved(100, || proved::plan(sheet, 0, &mut ours), theirs));
 }
 
 fn rebuilding(sheet: &[u8], plan: &[u8], size: usize) {

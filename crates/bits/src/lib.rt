@@ -103,15 +103,7 @@ pub fn below(bound: usize) -> BitSet
 pub fn count(set: BitSet) -> usize
     ensures { λ r. ⌜ r ≡ count (numeral set) ⌝ }
 {
-    let mut ones = 0;
-    let mut bit = 0;
-    while bit < SET_WIDTH {
-        if has(set, bit) {
-            ones += 1;
-        }
-        bit += 1;
-    }
-    ones
+    u64::count_ones(set.word) as usize
 }
 
 // The elements that two sets share.
