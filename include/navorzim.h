@@ -161,7 +161,8 @@ navorzim_sheet navorzim_single_parity(uint64_t data_disks, uint64_t rows, uint8_
 /* Liberation (Plank): w is 3, 5 or 7, data_disks 2 to w; r = w, two parity disks. */
 navorzim_sheet navorzim_liberation(uint64_t w, uint64_t data_disks, uint8_t *buffer, size_t buffer_length);
 
-/* Row-diagonal parity over the data disks: p is 3, 5 or 7; p - 1 data disks, r = p - 1, two parity disks. */
+/* Row-diagonal parity (Corbett and others): p is 3, 5 or 7; p - 1 data disks, r = p - 1, two parity disks. The diagonals go over the data
+ * disks and the row parity disk. Sheets from before that was corrected, with P left out of the diagonals, are codes like any other. */
 navorzim_sheet navorzim_row_diagonal(uint64_t p, uint8_t *buffer, size_t buffer_length);
 
 

@@ -17,6 +17,7 @@ from arrays import SMALLEST, SPECIAL_CODES, below, random_bytes, random_code, ra
 from desk_vectors import add_desk_vectors
 from edition2_vectors import add_edition_2_vectors
 from plan_vectors import add_plan_vectors
+from plans import direct_plan
 from planner_vectors import Questions, add_list_questions, add_planning_questions
 from rebuild_vectors import add_rebuild_vectors
 from records import ROOM, Vectors
@@ -296,6 +297,26 @@ def add_views_order(vectors: Vectors) -> None:
         vectors.look_up("look up, order", sheet, disk, size, (stripe, spare), symbol)
 
 
+# Sheets from before row-diagonal was corrected
+
+
+def add_old_row_diagonal(vectors: Vectors, questions: Questions) -> None:
+    """They are read, encoded, planned, checked and rebuilt like any code; a plan for one of the two rules is no plan for the other's."""
+    kind = "row-diagonal as before"
+    for p in (3, 5, 7):
+        before, after = second.row_diagonal_before(p), second.row_diagonal(p)
+        sheet = second.sheet_of(before)
+        vectors.read(kind, sheet)
+        vectors.encode(kind, sheet, 5, lengths_for(before, 5))
+        questions.add_code(kind, before)
+        for disk in range(before.disks):
+            plan = direct_plan(before, disk)
+            vectors.check(kind, sheet, disk, plan.sheet())
+            vectors.rebuild(kind, sheet, disk, plan.sheet(), 3, valid=True)
+            vectors.rebuild(kind, second.sheet_of(after), disk, plan.sheet(), 3, valid=True)
+            vectors.rebuild(kind, sheet, disk, direct_plan(after, disk).sheet(), 3, valid=True)
+
+
 def all_vectors() -> tuple[Vectors, Questions]:
     vectors = Vectors()
     vectors.read("square code", second.sheet_of(second.SQUARE))
@@ -319,6 +340,7 @@ def all_vectors() -> tuple[Vectors, Questions]:
     # The records with lists come last, so that none of the others depends on them.
     add_edition_2_vectors(vectors)
     add_list_questions(questions)
+    add_old_row_diagonal(vectors, questions)
     return vectors, questions
 
 

@@ -75,7 +75,7 @@ def without(code: Code, places: list[int]) -> Code:
 
 
 def add_second_parity(questions: Questions) -> None:
-    """P is gone, whole or in part, or a copy of Q: Liberation's Q can still do it, row-diagonal's can't for every disk."""
+    """P is gone, whole or in part, or a copy of Q: Q can still do it for every data disk."""
     for code in [liberation(3, 3), liberation(5, 4), liberation(7, 7), row_diagonal(3), row_diagonal(5), row_diagonal(7)]:
         first = code.symbols - 2 * code.height
         parity = list(range(first, first + code.height))

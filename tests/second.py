@@ -116,20 +116,36 @@ def liberation(w: int, k: int) -> Union[Code, Refusal]:
     if w not in (3, 5, 7) or not 2 <= k <= w:
         return Refusal(36)
     everywhere = {(c, j) for c in range(k) for j in range(w)}
-    diagonals = [{(c, j) for c, j in everywhere if (j - c - i) % w == 0} for i in range(w)]
+    on_diagonal = [{(c, j) for c, j in everywhere if (j - c - i) % w == 0} for i in range(w)]
     besides: list[set[Place]] = [set() for _ in range(w)]
     for c in range(1, k):
         (y,) = [row for row in range(w) if (2 * row - c * (w - 1)) % w == 0]
         besides[y].add((c, (y + c - 1) % w))
-    return code_of(k, w, [row_parity(k, w), [diagonals[i] ^ besides[i] for i in range(w)]])
+    return code_of(k, w, [row_parity(k, w), [on_diagonal[i] ^ besides[i] for i in range(w)]])
+
+
+def diagonals(disks: int, p: int) -> list[set[Place]]:
+    """The diagonals 0 to p - 1 of so many disks of p - 1 rows: on diagonal i disk and row sum to i mod p."""
+    everywhere = {(c, j) for c in range(disks) for j in range(p - 1)}
+    return [{(c, j) for c, j in everywhere if (j + c - i) % p == 0} for i in range(p)]
 
 
 def row_diagonal(p: int) -> Union[Code, Refusal]:
+    """Q is the diagonals over the data disks and the row parity disk, which is disk p - 1: its places stand for what they take."""
     if p not in (3, 5, 7):
         return Refusal(36)
-    everywhere = {(c, j) for c in range(p - 1) for j in range(p - 1)}
-    diagonals = [{(c, j) for c, j in everywhere if (j + c - i) % p == 0} for i in range(p - 1)]
-    return code_of(p - 1, p - 1, [row_parity(p - 1, p - 1), diagonals])
+    parity = row_parity(p - 1, p - 1)
+
+    def taken(place: Place) -> set[Place]:
+        return parity[place[1]] if place[0] == p - 1 else {place}
+
+    q = [reduce(set.symmetric_difference, map(taken, diagonal), set()) for diagonal in diagonals(p, p)[: p - 1]]
+    return code_of(p - 1, p - 1, [parity, q])
+
+
+def row_diagonal_before(p: int) -> Code:
+    """Row-diagonal as document 01 had it: diagonals over the data disks alone. Such sheets stay legal codes."""
+    return code_of(p - 1, p - 1, [row_parity(p - 1, p - 1), diagonals(p - 1, p)[: p - 1]])
 
 
 SINGLE_PARITY, LIBERATION, ROW_DIAGONAL = 0, 1, 2
@@ -291,7 +307,13 @@ def test_sheets() -> None:
 
 
 def test_families() -> None:
-    assert row_diagonal(3) == Code(4, 2, 4, (1, 2, 4, 8, 5, 10, 1, 6))
+    assert row_diagonal(3) == Code(4, 2, 4, (1, 2, 4, 8, 5, 10, 11, 6))
+    assert row_diagonal_before(3) == Code(4, 2, 4, (1, 2, 4, 8, 5, 10, 1, 6))
+    for p in (3, 5, 7):
+        code, before = row_diagonal(p), row_diagonal_before(p)
+        assert all(rank(rows) == code.data_symbols for rows in after_two_losses(code))
+        assert not all(rank(rows) == before.data_symbols for rows in after_two_losses(before))
+        assert read_code(sheet_of(before)) == before
     code = liberation(5, 5)
     assert bits_of(code.rows[31]) == [1, 7, 13, 18, 19, 20]
     assert bits_of(code.rows[34]) == [4, 5, 10, 11, 17, 23]

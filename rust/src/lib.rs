@@ -61,7 +61,7 @@ pub enum Family {
         /// k, from 2 to w.
         data_disks: u64,
     },
-    /// p − 1 data disks of p − 1 rows, row parity and diagonal parity.
+    /// p − 1 data disks of p − 1 rows, row parity, and parity of the diagonals over data and row parity.
     RowDiagonal {
         /// 3, 5 or 7.
         p: u64,

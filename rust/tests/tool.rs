@@ -61,6 +61,34 @@ fn families_are_written() {
 }
 
 #[test]
+fn old_row_diagonal_sheets_are_known_and_stay_good() {
+    let folder = Folder::new();
+    for p in [3u8, 5, 7] {
+        folder.done(&format!("family row-diagonal {p} -o code"));
+        let shown = folder.done("show code");
+        assert!(shown.contains(&format!("Row-diagonal, p {p}:")), "{shown}");
+        let old = model::old_row_diagonal(p.into());
+        folder.put("old", &old);
+        let shown = folder.done("show old");
+        assert!(shown.contains(&format!("Row-diagonal as before the correction, p {p}:")), "{shown}");
+        let data: Vec<u8> = (0..usize::from(p - 1).pow(2) * 2).map(|i| i as u8).collect();
+        folder.put("data", &data);
+        folder.done("encode old --symbol 2 data -o stripes");
+        let whole = folder.get("stripes");
+        for disk in 0..=usize::from(p) {
+            folder.done(&format!("plan old {disk} -o plan"));
+            folder.done(&format!("check old {disk} plan"));
+            let mut lost = whole.clone();
+            let strip = 2 * usize::from(p - 1);
+            lost[disk * strip..(disk + 1) * strip].fill(0xA5);
+            folder.put("lost", &lost);
+            folder.done(&format!("rebuild old {disk} plan --symbol 2 lost -o back"));
+            assert_eq!(folder.get("back"), whole, "p {p}, disk {disk}");
+        }
+    }
+}
+
+#[test]
 fn data_is_encoded() {
     let folder = Folder::square();
     folder.done("encode code --symbol 1 data -o out");

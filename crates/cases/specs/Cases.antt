@@ -155,7 +155,7 @@ rulesCases =
     -- P9: one clear, 0 reads
     ∷ answers emptyRow 0 (6 ∷ 1 ∷ 2 ∷ 1 ∷ 1 ∷ 0 ∷ 0 ∷ 1 ∷ 0 ∷ 0 ∷ 0 ∷ 0 ∷ []) (Gives 0)
     -- P10
-    ∷ rows-from (RowDiagonal 3) 0 (1 ∷ 2 ∷ 4 ∷ 8 ∷ 5 ∷ 10 ∷ 1 ∷ 6 ∷ [])
+    ∷ rows-from (RowDiagonal 3) 0 (1 ∷ 2 ∷ 4 ∷ 8 ∷ 5 ∷ 10 ∷ 11 ∷ 6 ∷ [])
     -- P11: row 31 has bits 1, 7, 13, 18, 19, 20; row 34 has bits 4, 5, 10, 11, 17, 23
     ∷ rows-from (Liberation 5 5) 31 (withBits (1 ∷ 7 ∷ 13 ∷ 18 ∷ 19 ∷ 20 ∷ []) ∷ [])
     ∷ rows-from (Liberation 5 5) 34 (withBits (4 ∷ 5 ∷ 10 ∷ 11 ∷ 17 ∷ 23 ∷ []) ∷ [])

@@ -6,7 +6,7 @@ use Prim.Native.Nat.{ℕ, zero, suc, _+_, _-_, _*_, _%_, _^_, _≤_, _<_}
 use native.Mathlib.Nat.{mul-le-mul, mod-lt, mod-add-mod, add-mod-right, mod-eq-of-lt}
 use native.Mathlib.Numerals.{add-one}
 use native.Mathlib.Omega.{arith}
-use lib.Bits.{bitXor, xor-lt, or-zero-l}
+use lib.Bits.{bitXor, xor-lt, xor-zero-r, or-zero-l}
 use lib.Dec.{eqb, leb}
 use lib.Pow.{pow-pos}
 use borrow.Author.Tests.{leb-true, eqb-true, eq-eqb, ne-eqb, lt-ltb, le-ltb}
@@ -17,7 +17,8 @@ use Rattle.codes.specs.declared.Layout.{Layout}
 use Rattle.codes.proofs.LayoutLaws.{strips-in-order, strip-within, on-disk-between, on-own-disk, disk-of-below}
 use Rattle.family_codes.specs.declared.Family.{Family}
 use Rattle.family_codes.specs.declared.Family.the-variants.{SingleParity, Liberation, RowDiagonal}
-use Rattle.family_codes.specs.Families.{sumOver, unit, entry, diagonalRow, qEntry, entryOf, dataDisks, familyHeight, parityDisks, threeFiveOrSeven, belowLimits, listed, dataSymbols, familyLayout, parityRow, diskRow, familyRow, familyCode}
+use Rattle.family_codes.specs.Families.{sumOver, unit, entry, dataOrRowParity, diagonalRow, diagonalEntry, dataDisks, familyHeight, parityDisks, threeFiveOrSeven, belowLimits, listed, dataSymbols, familyLayout, qRow, parityRow, diskRow, familyRow, familyCode}
+use Rattle.family_codes.specs.InnerDataSums.{qEntry, entryOf, dataSum}
 
 -- ------------------------------------------------------------------
 -- Sums
@@ -36,6 +37,13 @@ sumOver-turn count term sum next result e f g = g ∙ ap₂ bitXor e f ∙ sumOv
 pub sumOver-done : (count reached : ℕ) (term : ℕ → ℕ) (sum : ℕ) → reached ≤ count → count ≤ reached → sum ≡ sumOver reached term
     → sum ≡ sumOver count term
 sumOver-done count reached term sum a b e = let end : reached ≡ count = omega arith in rw end at e
+
+-- Equal terms have equal sums
+pub sumOver-equal : (count : ℕ) (f g : ℕ → ℕ) → ((c : ℕ) → c < count → f c ≡ g c) → sumOver count f ≡ sumOver count g
+unfolding sumOver
+sumOver-equal zero f g h = refl
+sumOver-equal (suc count) f g h =
+    ap₂ bitXor (sumOver-equal count f g (λ c l. h c (omega arith))) (h count (omega arith))
 
 -- A sum of rows of so many bits has no more
 pub sumOver-below : (bits count : ℕ) (term : ℕ → ℕ) → ((c : ℕ) → c < count → term c < 2 ^ bits) → sumOver count term < 2 ^ bits
@@ -86,6 +94,59 @@ pub entryOf-of-Q : (family known : Family) (parity i c : ℕ) → ¬ (parity ≡
 unfolding entryOf
 entryOf-of-Q family known parity i c n e =
     sym (ap (λ (f : Family). qEntry f i c) e) ∙ sym (simp (ne-eqb parity 0 n))
+
+-- ------------------------------------------------------------------
+-- Parity rows
+
+-- P is the sum over the data disks
+pub parityRow-of-P : (family : Family) (parity i : ℕ) → parity ≡ 0 → dataSum family 0 i ≡ parityRow family parity i
+unfolding parityRow entryOf
+parityRow-of-P family parity i e = sym (simp (eq-eqb parity 0 e))
+
+-- Q is what the family says
+pub parityRow-of-Q : (family known : Family) (parity i : ℕ) → ¬ (parity ≡ 0) → family ≡ known → qRow known i ≡ parityRow family parity i
+unfolding parityRow
+parityRow-of-Q family known parity i n e =
+    sym (ap (λ (f : Family). qRow f i) e) ∙ sym (simp (ne-eqb parity 0 n))
+
+-- Liberation's is the sum over the data disks
+pub qRow-of-liberation : (family : Family) (w k i : ℕ) → family ≡ Liberation w k → dataSum family 1 i ≡ qRow (Liberation w k) i
+unfolding entryOf
+qRow-of-liberation family w k i e = ap (λ (f : Family). dataSum f 1 i) e
+
+-- Row-diagonal's has disk p − 1 besides, ..
+module _ (p i : ℕ) (h : i + 1 < p) where
+  abbrev taken : ℕ → ℕ
+  taken = diagonalEntry (dataOrRowParity (RowDiagonal p)) p i
+
+  qRow-split : bitXor (dataSum (RowDiagonal p) 1 i) (taken (p - 1)) ≡ qRow (RowDiagonal p) i
+  unfolding entryOf diagonalEntry dataOrRowParity
+  qRow-split =
+      let disks : p - 1 + 1 ≡ p = omega arith in
+      ap (λ (s : ℕ). bitXor s (taken (p - 1))) (sumOver-equal (p - 1) (qEntry (RowDiagonal p) i) taken (λ c l. simp (lt-ltb c (p - 1) l)))
+      ∙ sumOver-more (p - 1) taken
+      ∙ ap (λ (n : ℕ). sumOver n taken) disks
+
+  -- .. of which the diagonal takes row i + 1
+  row-on-parity : diagonalRow p i (p - 1) ≡ i + 1
+  row-on-parity =
+      let further : i + p - (p - 1) ≡ i + 1 = omega arith in
+      ap (λ (n : ℕ). n % p) further ∙ mod-eq-of-lt h
+
+  pub row-diagonal-with-parity : i + 1 < p - 1 → bitXor (dataSum (RowDiagonal p) 1 i) (dataSum (RowDiagonal p) 0 (i + 1)) ≡ qRow (RowDiagonal p) i
+  unfolding entryOf diagonalEntry dataOrRowParity
+  row-diagonal-with-parity l =
+      ap (bitXor (dataSum (RowDiagonal p) 1 i))
+      (sym (simp (row-on-parity, lt-ltb (i + 1) (p - 1) l, le-ltb (p - 1) (p - 1) (omega arith))))
+      ∙ qRow-split
+
+  -- The last row takes nothing of it
+  pub row-diagonal-without-parity : p - 1 ≤ i + 1 → dataSum (RowDiagonal p) 1 i ≡ qRow (RowDiagonal p) i
+  unfolding diagonalEntry
+  row-diagonal-without-parity l =
+      sym (xor-zero-r (dataSum (RowDiagonal p) 1 i))
+      ∙ ap (bitXor (dataSum (RowDiagonal p) 1 i)) (sym (simp (row-on-parity, le-ltb (i + 1) (p - 1) l)))
+      ∙ qRow-split
 
 -- ------------------------------------------------------------------
 -- Parameters

@@ -12,7 +12,7 @@ use Rattle.codes.specs.Codes.{WithinLimits}
 use Rattle.codes.specs.Layouts.{symbolsOf, firstSymbol, diskOf}
 use Rattle.family_codes.specs.declared.Family.{Family}
 use Rattle.family_codes.specs.declared.Family.the-variants.{SingleParity, Liberation, RowDiagonal}
-use Rattle.family_codes.specs.Families.{unit, entry, liberationRow, extraRow, extraEntry, liberationEntry, diagonalRow, diagonalEntry, qEntry, entryOf, dataDisks, familyHeight, parityRow, diskRow, familyRow, familyLayout, dataSymbols, familyCode, listed}
+use Rattle.family_codes.specs.Families.{unit, entry, rowParity, liberationRow, extraRow, extraEntry, liberationEntry, dataOrRowParity, diagonalRow, diagonalEntry, qRow, dataDisks, familyHeight, parityRow, diskRow, familyRow, familyLayout, dataSymbols, familyCode, listed}
 use Rattle.family_codes.proofs.FamilyLaws.{sumOver-below, listed-bounds, dataSymbol-below, mod-is-row, symbols-to, dataSymbols-from, dataSymbols-to, row-of-symbol}
 
 -- Both ways of a choice are below
@@ -38,31 +38,42 @@ module _ (family : Family) (h : listed family ≡ true) (w i c : ℕ) (l : c < d
       xor-lt (dataSymbols family) (entry family c (liberationRow w i c)) (extraEntry family w i c)
       (entry-below family c (liberationRow w i c) l (mod-is-row family h w _ e)) extraEntry-below
 
--- Rows below p − 1 are rows of a disk
-diagonalEntry-below : (family : Family) (p i c : ℕ) → c < dataDisks family → familyHeight family ≡ p - 1
-    → diagonalEntry family p i c < 2 ^ dataSymbols family
+-- A diagonal takes rows below p − 1
+diagonalEntry-below : (disks : ℕ → ℕ → ℕ) (p i c bits : ℕ) → ((j : ℕ) → j < p - 1 → disks c j < 2 ^ bits) → diagonalEntry disks p i c < 2 ^ bits
 unfolding diagonalEntry
-diagonalEntry-below family p i c l e =
-    cond-below (ltb (diagonalRow p i c) (p - 1)) (entry family c (diagonalRow p i c)) 0 (2 ^ dataSymbols family)
-    (λ t. entry-below family c (diagonalRow p i c) l (omega (arith, ltb-true (diagonalRow p i c) (p - 1) t))) (pow-pos (dataSymbols family))
+diagonalEntry-below disks p i c bits h =
+    cond-below (ltb (diagonalRow p i c) (p - 1)) (disks c (diagonalRow p i c)) 0 (2 ^ bits)
+    (λ t. h (diagonalRow p i c) (ltb-true (diagonalRow p i c) (p - 1) t)) (pow-pos bits)
 
--- What Q takes of a disk has K bits
-qEntry-below : (family : Family) → listed family ≡ true → (i c : ℕ) → c < dataDisks family → qEntry family i c < 2 ^ dataSymbols family
-qEntry-below (SingleParity k r) h i c l = pow-pos (dataSymbols (SingleParity k r))
-qEntry-below (Liberation w k) h i c l = liberationEntry-below (Liberation w k) h w i c l refl
-qEntry-below (RowDiagonal p) h i c l = diagonalEntry-below (RowDiagonal p) p i c l refl
+-- Row parity has K bits
+rowParity-below : (family : Family) (j : ℕ) → j < familyHeight family → rowParity family j < 2 ^ dataSymbols family
+rowParity-below family j m =
+    sumOver-below (dataSymbols family) (dataDisks family) (λ c. entry family c j) (λ c l. entry-below family c j l m)
+
+dataOrRowParity-below : (family : Family) (c j : ℕ) → j < familyHeight family → dataOrRowParity family c j < 2 ^ dataSymbols family
+unfolding dataOrRowParity
+dataOrRowParity-below family c j m =
+    cond-below (ltb c (dataDisks family)) (entry family c j) (rowParity family j) (2 ^ dataSymbols family)
+    (λ t. entry-below family c j (ltb-true c (dataDisks family) t) m) (rowParity-below family j m)
+
+-- Q has K bits
+qRow-below : (family : Family) → listed family ≡ true → (i : ℕ) → qRow family i < 2 ^ dataSymbols family
+qRow-below (SingleParity k r) h i = pow-pos (dataSymbols (SingleParity k r))
+qRow-below (Liberation w k) h i =
+    let family = Liberation w k in
+    sumOver-below (dataSymbols family) k (liberationEntry family w i) (λ c l. liberationEntry-below family h w i c l refl)
+qRow-below (RowDiagonal p) h i =
+    let family = RowDiagonal p in
+    let K = dataSymbols family in
+    sumOver-below K p (diagonalEntry (dataOrRowParity family) p i)
+    (λ c l. diagonalEntry-below (dataOrRowParity family) p i c K (λ j m. dataOrRowParity-below family c j m))
 
 module _ (family : Family) (h : listed family ≡ true) where
-  entryOf-below : (parity i c : ℕ) → i < familyHeight family → c < dataDisks family → entryOf family parity i c < 2 ^ dataSymbols family
-  unfolding entryOf
-  entryOf-below parity i c m l =
-      cond-below (eqb parity 0) (entry family c i) (qEntry family i c) (2 ^ dataSymbols family)
-      (λ t. entry-below family c i l m) (qEntry-below family h i c l)
-
-  -- A parity row has K bits
   parityRow-below : (parity i : ℕ) → i < familyHeight family → parityRow family parity i < 2 ^ dataSymbols family
+  unfolding parityRow
   parityRow-below parity i m =
-      sumOver-below (dataSymbols family) (dataDisks family) (entryOf family parity i) (λ c l. entryOf-below parity i c m l)
+      cond-below (eqb parity 0) (rowParity family i) (qRow family i) (2 ^ dataSymbols family)
+      (λ t. rowParity-below family i m) (qRow-below family h i)
 
   -- Each row has K bits
   familyRow-below : (s : ℕ) → familyRow family s < 2 ^ dataSymbols family

@@ -39,7 +39,7 @@ abbrev pub dataSymbols : Family → ℕ
 dataSymbols family = firstSymbol (familyLayout family) (dataDisks family)
 
 -- ------------------------------------------------------------------
--- What a row takes of a disk, as a row of the generator matrix
+-- Rows of the generator matrix
 
 -- An identity row: the one bit of a data symbol
 unfoldable pub unit : ℕ → ℕ
@@ -48,6 +48,15 @@ unit symbol = 2 ^ symbol
 -- Data disk c, row j is data symbol c × r + j with an identity row
 abbrev pub entry : Family → ℕ → ℕ → ℕ
 entry family c j = unit (firstSymbol (familyLayout family) c + j)
+
+-- The XOR of a term for each number below a count
+unfoldable pub sumOver : ℕ → (ℕ → ℕ) → ℕ
+sumOver zero term = 0
+sumOver (suc count) term = bitXor (sumOver count term) (term count)
+
+-- P is row parity: row i is the XOR of row i
+abbrev pub rowParity : Family → ℕ → ℕ
+rowParity family i = sumOver (dataDisks family) (λ c. entry family c i)
 
 -- Liberation: Q row i takes row (i + c) mod w of each disk c.
 abbrev pub liberationRow : ℕ → ℕ → ℕ → ℕ
@@ -65,39 +74,30 @@ extraEntry family w i c = cond (leb 1 c && eqb (extraRow w c) i) (entry family c
 abbrev pub liberationEntry : Family → ℕ → ℕ → ℕ → ℕ
 liberationEntry family w i c = bitXor (entry family c (liberationRow w i c)) (extraEntry family w i c)
 
--- Row-diagonal: Q row i takes, of each data disk c, the row j .. with j + c = i mod p, ..
+-- Row-diagonal takes the diagonals over the data disks and the row parity disk, which is disk p − 1. Row j of disk c:
+unfoldable pub dataOrRowParity : Family → ℕ → ℕ → ℕ
+dataOrRowParity family c j = cond (ltb c (dataDisks family)) (entry family c j) (rowParity family j)
+
+-- Q row i takes, of each disk c .., the row j .. with j + c = i mod p, ..
 abbrev pub diagonalRow : ℕ → ℕ → ℕ → ℕ
 diagonalRow p i c = (i + p - c) % p
 
--- .. below p − 1 .., if there is one: no other row below p lies on the diagonal
-unfoldable pub diagonalEntry : Family → ℕ → ℕ → ℕ → ℕ
-diagonalEntry family p i c = cond (ltb (diagonalRow p i c) (p - 1)) (entry family c (diagonalRow p i c)) 0
+-- .. below p − 1 .., if there is one: no other row below p lies on the diagonal. `disks c j` is row j of disk c
+unfoldable pub diagonalEntry : (ℕ → ℕ → ℕ) → ℕ → ℕ → ℕ → ℕ
+diagonalEntry disks p i c = cond (ltb (diagonalRow p i c) (p - 1)) (disks c (diagonalRow p i c)) 0
 
--- What Q row i takes of disk c. Single parity has no Q
-abbrev pub qEntry : Family → ℕ → ℕ → ℕ
-qEntry (SingleParity k r) i c = 0
-qEntry (Liberation w k) i c = liberationEntry (Liberation w k) w i c
-qEntry (RowDiagonal p) i c = diagonalEntry (RowDiagonal p) p i c
+-- Row i of Q: Liberation takes of each data disk c, row-diagonal of each disk c from 0 to p − 1. Single parity has no Q
+abbrev pub qRow : Family → ℕ → ℕ
+qRow (SingleParity k r) i = 0
+qRow (Liberation w k) i = sumOver k (liberationEntry (Liberation w k) w i)
+qRow (RowDiagonal p) i = sumOver p (diagonalEntry (dataOrRowParity (RowDiagonal p)) p i)
 
--- What row i of a parity disk, counted from 0, takes of disk c. P is row parity: it takes row i. Q follows
-unfoldable pub entryOf : Family → ℕ → ℕ → ℕ → ℕ
-entryOf family parity i c = cond (eqb parity 0) (entry family c i) (qEntry family i c)
+-- Row i of a parity disk, counted from 0: parities P and Q
+unfoldable pub parityRow : Family → ℕ → ℕ → ℕ
+parityRow family parity i = cond (eqb parity 0) (rowParity family i) (qRow family i)
 
 -- ------------------------------------------------------------------
 -- The code of a family
-
--- The XOR of a term for each number below a count
-unfoldable pub sumOver : ℕ → (ℕ → ℕ) → ℕ
-sumOver zero term = 0
-sumOver (suc count) term = bitXor (sumOver count term) (term count)
-
--- The sums run over the data disks
-abbrev pub summedDisks : Family → ℕ → ℕ
-summedDisks family parity = dataDisks family
-
--- Row i of a parity disk, counted from 0
-abbrev pub parityRow : Family → ℕ → ℕ → ℕ
-parityRow family parity i = sumOver (summedDisks family parity) (entryOf family parity i)
 
 -- Row j of a disk in the generator matrix: identity rows on the data disks; parity disks follow
 unfoldable pub diskRow : Family → ℕ → ℕ → ℕ

@@ -1,15 +1,15 @@
 // The code of a family: the row of each symbol.
 ghost use mathlib.Core.Path.{_≡_};
 ghost use mathlib.Core.Bool.{true};
-ghost use Prim.Native.Nat.{_<_};
+ghost use Prim.Native.Nat.{_+_, _<_};
 ghost use Rattle.bits.specs.Numerals.{numeral};
 ghost use Rattle.codes.specs.Codes.{linear};
 ghost use Rattle.codes.specs.Layouts.{symbolsOf};
-ghost use Rattle.family_codes.specs.Families.{listed, familyHeight, familyLayout, parityRow, familyRow, familyCode};
+ghost use Rattle.family_codes.specs.Families.{listed, familyHeight, familyLayout, qRow, parityRow, familyRow, familyCode};
+ghost use Rattle.family_codes.specs.InnerDataSums.{dataSum};
 use super::Family;
 use super::entries::entry_of;
 use super::entries::identity_row;
-use super::entries::summed_disks;
 use super::listed::data_disks_of;
 use super::listed::layout_of;
 use bits::BitSet;
@@ -18,12 +18,12 @@ use bits::empty_sets;
 use bits::sum;
 use codes::Code;
 
-// Row `row` of a parity disk, counted from 0.
-fn parity_row(family: Family, parity: usize, row: usize) -> BitSet
+// The sum over the data disks in row `row` of a parity disk, counted from 0.
+fn data_sum(family: Family, parity: usize, row: usize) -> BitSet
     requires { ⌜ (listed family ≡ true) × (row < familyHeight family) ⌝ }
-    ensures { λ r. ⌜ numeral r ≡ parityRow family parity row ⌝ }
+    ensures { λ r. ⌜ numeral r ≡ dataSum family parity row ⌝ }
 {
-    let disks = summed_disks(family, parity);
+    let disks = data_disks_of(family);
     let mut total = empty();
     let mut disk = 0;
     while disk < disks {
@@ -32,6 +32,41 @@ fn parity_row(family: Family, parity: usize, row: usize) -> BitSet
         disk += 1;
     }
     total
+}
+
+// Row `row` of row-diagonal's Q. Its diagonal meets the row parity disk, disk p - 1, one row further.
+fn row_diagonal_q(p: usize, row: usize) -> BitSet
+    requires { ⌜ (listed (Family.RowDiagonal p) ≡ true) × (row + 1 < p) ⌝ }
+    ensures { λ r. ⌜ numeral r ≡ qRow (Family.RowDiagonal p) row ⌝ }
+{
+    let family = Family::RowDiagonal { p };
+    let of_data = data_sum(family, 1, row);
+    let from = row + 1;
+    if p - 1 <= from {
+        return of_data;
+    }
+    sum(of_data, data_sum(family, 0, from))
+}
+
+// Row `row` of a parity disk, counted from 0.
+fn parity_row(family: Family, parity: usize, row: usize) -> BitSet
+    requires { ⌜ (listed family ≡ true) × (row < familyHeight family) ⌝ }
+    ensures { λ r. ⌜ numeral r ≡ parityRow family parity row ⌝ }
+{
+    if parity == 0 {
+        return data_sum(family, 0, row);
+    }
+    match family {
+        Family::SingleParity {
+            data_disks: _,
+            rows: _,
+        } => empty(),
+        Family::Liberation {
+            w: _,
+            data_disks: _,
+        } => data_sum(family, 1, row),
+        Family::RowDiagonal { p } => row_diagonal_q(p, row),
+    }
 }
 
 // The row of a symbol.

@@ -3,9 +3,9 @@ ghost use mathlib.Core.Path.{_≡_};
 ghost use mathlib.Core.Bool.{true};
 ghost use Prim.Native.Nat.{_+_, _<_};
 ghost use Rattle.bits.specs.Numerals.{numeral};
-ghost use Rattle.family_codes.specs.Families.{listed, dataDisks, familyHeight, entry, liberationEntry, extraEntry, diagonalEntry, entryOf, summedDisks};
+ghost use Rattle.family_codes.specs.Families.{listed, dataDisks, familyHeight, entry, liberationEntry, extraEntry, diagonalEntry};
+ghost use Rattle.family_codes.specs.InnerDataSums.{entryOf};
 use super::Family;
-use super::listed::data_disks_of;
 use super::listed::layout_of;
 use bits::BitSet;
 use bits::empty;
@@ -46,10 +46,10 @@ fn liberation_entry(family: Family, w: usize, row: usize, disk: usize) -> BitSet
     sum(diagonal, extra_entry(family, w, row, disk))
 }
 
-// What row-diagonal's Q takes of a disk. The diagonal's row p - 1 is none of the disk.
+// What a diagonal takes of a data disk. Its row p - 1 is none of the disk.
 fn diagonal_entry(family: Family, p: usize, row: usize, disk: usize) -> BitSet
     requires { ⌜ (listed family ≡ true) × (familyHeight family + 1 ≡ p) × (row < p) × (disk < p) × (disk < dataDisks family) ⌝ }
-    ensures { λ r. ⌜ numeral r ≡ diagonalEntry family p row disk ⌝ }
+    ensures { λ r. ⌜ numeral r ≡ diagonalEntry (entry family) p row disk ⌝ }
 {
     let from = (row + p - disk) % p;
     if p - 1 <= from {
@@ -58,17 +58,9 @@ fn diagonal_entry(family: Family, p: usize, row: usize, disk: usize) -> BitSet
     identity_row(family, disk, from)
 }
 
-// The disks over which a parity's sums run.
-pub fn summed_disks(family: Family, parity: usize) -> usize
-    requires { ⌜ listed family ≡ true ⌝ }
-    ensures { λ r. ⌜ r ≡ summedDisks family parity ⌝ }
-{
-    data_disks_of(family)
-}
-
-// What row `row` of a parity disk, counted from 0, takes of a disk. Single parity has no parity disk 1.
+// What row `row` of a parity disk, counted from 0, takes of a data disk. Single parity has no parity disk 1.
 pub fn entry_of(family: Family, parity: usize, row: usize, disk: usize) -> BitSet
-    requires { ⌜ (listed family ≡ true) × (row < familyHeight family) × (disk < summedDisks family parity) ⌝ }
+    requires { ⌜ (listed family ≡ true) × (row < familyHeight family) × (disk < dataDisks family) ⌝ }
     ensures { λ r. ⌜ numeral r ≡ entryOf family parity row disk ⌝ }
 {
     if parity == 0 {

@@ -115,7 +115,23 @@ fn diagonal(name: &str, data_disks: usize, height: usize, i: usize) -> HashSet<(
             q.extend((0..height).filter(|j| (j + c) % p == i % p).map(|j| (c, j)));
         }
     }
+    // Row-diagonal's disk p - 1 is P. The row of it on diagonal i is row i + 1, if P has it, and that is this row of every data disk.
+    if name == "row-diagonal" && i + 1 < height {
+        q.extend((0..data_disks).map(|c| (c, i + 1)));
+    }
     q
+}
+
+/// The sheet of row-diagonal as it was before its rule was corrected: P left out of the diagonals.
+pub fn old_row_diagonal(p: u64) -> Vec<u8> {
+    let mut code = read_code(&family("row-diagonal", p, 0).expect("listed")).expect("a code");
+    let (height, first) = (code.height, code.symbols() - code.height);
+    for i in 0..height {
+        for t in 0..code.data {
+            code.rows[first + i][t] = (t % height + t / height) % (height + 1) == i;
+        }
+    }
+    code.sheet()
 }
 
 fn symbol_length(size: u64) -> Result<usize, No> {

@@ -100,6 +100,10 @@ impl Code {
     /// The family that this very sheet belongs to, and its name.
     fn family(&self) -> Option<(Family, String)> {
         let (n, r) = (self.disks as u64, self.rows as u64);
+        if self.is_old_row_diagonal() {
+            let name = format!("Row-diagonal as before the correction, p {}", r + 1);
+            return Some((Family::RowDiagonal { p: r + 1 }, name));
+        }
         let is = |family: Family| family.sheet().is_ok_and(|sheet| sheet == self.sheet);
         let named = [
             (
@@ -113,6 +117,20 @@ impl Code {
             ),
         ];
         named.into_iter().find(|(family, _)| is(*family))
+    }
+
+    /// Whether this is row-diagonal as it was before its rule was corrected: the diagonals of Q went over the data disks alone. Such
+    /// a sheet is a legal code still, but not every two of its disks can be lost.
+    fn is_old_row_diagonal(&self) -> bool {
+        let r = self.rows;
+        let corrected = Family::RowDiagonal { p: r as u64 + 1 }.sheet().and_then(|sheet| Code::read(&self.file, sheet));
+        let Ok(mut old) = corrected else { return false };
+        let q = old.sums.len() - r;
+        for (i, sum) in old.sums[q..].iter_mut().enumerate() {
+            let on_diagonal = (0..old.data).filter(|t| (t / r + t % r) % (r + 1) == i);
+            *sum = on_diagonal.fold(0, |sum, t| sum | 1 << t);
+        }
+        (old.disks, old.data, old.sums) == (self.disks, self.data, self.sums.clone())
     }
 
     /// The refusal of a disk, a plan or a symbol length, with the numbers at fault and the file that holds them.

@@ -1,71 +1,73 @@
--- `code::parity_row` meets its contract. The invariant: the sum over the disks passed. Assumes nothing.
-use mathlib.Core.Path.{_≡_}
-use Prim.Native.Nat.{_-_, _≤_}
+-- `code::parity_row` meets its contract: P, then Q family by family. Assumes nothing.
+use mathlib.Core.Path.{sym, ap, _∙_}
 use native.Mathlib.Omega.{arith}
-use Rattle.bits.specs.Numerals.{numeral}
-use Rattle.family_codes.specs.Families.{sumOver, entryOf, summedDisks}
-use Rattle.family_codes.proofs.FamilyLaws.{sumOver-turn, sumOver-done}
+use borrow.Author.Needs.{needs}
+use Rattle.family_codes.specs.Families.{listed, familyHeight}
+use Rattle.family_codes.proofs.FamilyLaws.{parityRow-of-P, parityRow-of-Q, qRow-of-liberation}
 use Rattle.family_codes.proofs.code.parity_row.Statement.{statement}
 use Rattle.family_codes.proofs.code.parity_row.Tie as tie
 
-abbrev Inv-loop : tie.InvT-loop
-Inv-loop family parity row disks total₀ disk₀ total disk =
-    (disk ≤ disks) × (numeral total ≡ sumOver disk (entryOf family parity row))
+data-sum-requires : tie.Need-data-sum-requires
+data-sum-requires c κs = search needs
 
-abbrev μ-loop : tie.MeasureT-loop
-μ-loop family parity row disks total₀ disk₀ total disk = disks - disk
+returns : tie.Need-returns
+returns c =
+    let a = c .before .before .args in
+    c .data-sum .ensures ∙ parityRow-of-P (a .family) (a .parity) (a .row) (c .before .if1 .taken)
 
-summed-disks-requires : tie.Need-summed-disks-requires Inv-loop μ-loop
-summed-disks-requires c κs = c .pre .0
+enum-told : tie.Need-enum-told
+enum-told c = search needs
 
-empty-requires : tie.Need-empty-requires Inv-loop μ-loop
+empty-requires : tie.Need-empty-requires
 empty-requires c κs = tt
 
-loop-holds : tie.Need-loop-holds Inv-loop μ-loop
-unfolding sumOver
-loop-holds c = (omega arith, c .empty .ensures)
+enum-told-2 : tie.Need-enum-told-2
+enum-told-2 c = search needs
 
-entry-of-requires : tie.Need-entry-of-requires Inv-loop μ-loop
-entry-of-requires c κs =
+data-sum-requires-2 : tie.Need-data-sum-requires-2
+data-sum-requires-2 c κs = search needs
+
+enum-known-family : tie.Need-enum-known-family
+enum-known-family c = search needs
+
+row-diagonal-q-requires : tie.Need-row-diagonal-q-requires
+row-diagonal-q-requires c κs =
+    let e = c .before .family .given .1 in
     let start = c .before .before .before .before in
-    (start .pre .0, start .pre .1, omega (arith, c .loop-test .taken, c .before .before .before .summed-disks .ensures))
+    (sym (ap listed e) ∙ start .pre .0, omega (arith, start .pre .1, ap familyHeight e))
 
-sum-requires : tie.Need-sum-requires Inv-loop μ-loop
-sum-requires c κs = tt
+returns-2 : tie.Need-returns-2
+returns-2 c =
+    let a = c .before .before .before .before .args in
+    c .empty .ensures
+    ∙ parityRow-of-Q (a .family) _ (a .parity) (a .row) (c .before .before .before .if1 .left) (c .before .enum-told .given .1)
 
-add-disk : tie.Need-add-disk Inv-loop μ-loop
-add-disk c = omega arith
+returns-3 : tie.Need-returns-3
+returns-3 c =
+    let a = c .before .before .before .before .args in
+    let e = c .before .enum-told2 .given .1 in
+    c .data-sum2 .ensures
+    ∙ qRow-of-liberation (a .family) _ _ (a .row) e
+    ∙ parityRow-of-Q (a .family) _ (a .parity) (a .row) (c .before .before .before .if1 .left) e
 
-loop-less : tie.Need-loop-less Inv-loop μ-loop
-loop-less c = omega arith
-
-loop-again : tie.Need-loop-again Inv-loop μ-loop
-loop-again c =
-    let turn = c .before .before .before in
-    let a = turn .before .before .before .args in
-    let term = entryOf (a .family) (a .parity) (a .row) in
-    (omega arith, sumOver-turn (turn .loop .disk) term _ _ _ (turn .loop .inv .1) (c .before .entry-of .ensures) (c .sum .ensures))
-
-returns : tie.Need-returns Inv-loop μ-loop
-returns c =
-    let end = c .before .loop in
-    let summed = c .before .before .before in
-    let a = summed .before .args in
-    let disks : summed .summed-disks .result ≡ summedDisks (a .family) (a .parity) = summed .summed-disks .ensures in
-    sumOver-done (summedDisks (a .family) (a .parity)) (end .disk) (entryOf (a .family) (a .parity) (a .row)) _ (omega arith) (omega arith) (end .inv .1)
+returns-4 : tie.Need-returns-4
+returns-4 c =
+    let a = c .before .before .before .before .before .args in
+    c .row-diagonal-q .ensures
+    ∙ parityRow-of-Q (a .family) _ (a .parity) (a .row) (c .before .before .before .before .if1 .left) (c .before .before .family .given .1)
 
 pub parity-row-spec : {M : Type 1} → statement M
 parity-row-spec =
     tie.close
     (tie.spec
-    Inv-loop
-    μ-loop
-    summed-disks-requires
+    data-sum-requires
+    returns
+    enum-told
     empty-requires
-    loop-holds
-    entry-of-requires
-    sum-requires
-    add-disk
-    loop-less
-    loop-again
-    returns)
+    enum-told-2
+    data-sum-requires-2
+    enum-known-family
+    row-diagonal-q-requires
+    returns-2
+    returns-3
+    returns-4)

@@ -1,0 +1,2 @@
+pub mod RecoveryLaws
+pub mod FamilyRecovery
