@@ -165,6 +165,9 @@ navorzim_sheet navorzim_liberation(uint64_t w, uint64_t data_disks, uint8_t *buf
  * disks and the row parity disk. Sheets from before that was corrected, with P left out of the diagonals, are codes like any other. */
 navorzim_sheet navorzim_row_diagonal(uint64_t p, uint8_t *buffer, size_t buffer_length);
 
+/* EVENODD (Blaum, Brady, Bruck and Menon): p is 3, 5 or 7; p data disks, r = p - 1, two parity disks. */
+navorzim_sheet navorzim_evenodd(uint64_t p, uint8_t *buffer, size_t buffer_length);
+
 
 /* ---------------------------------------------------------------------------------------------------------------------------------
  * Read a code sheet: is it good, and what are its n, r, K and N? With them a caller knows how long the other buffers must be. Writes nothing.

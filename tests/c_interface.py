@@ -27,6 +27,7 @@ ANSWERS = {
     "single_parity": "sheet",
     "liberation": "sheet",
     "row_diagonal": "sheet",
+    "evenodd": "sheet",
     "encode": "verdict",
     "check": "checked",
     "plan": "planned",
@@ -70,8 +71,8 @@ def told(answer: Union[int, Refusal, None]) -> tuple[int, ...]:
 def test_family(which: int, first: int, other: int, length: int) -> None:
     buffer = lent(random_bytes(length))
     answer, after = second.write_family(which, first, other, buffer.raw)
-    name = {second.SINGLE_PARITY: "single_parity", second.LIBERATION: "liberation"}.get(which, "row_diagonal")
-    numbers = (first,) if name == "row_diagonal" else (first, other)
+    name = ("single_parity", "liberation", "row_diagonal", "evenodd")[which]
+    numbers = (first, other) if which in (second.SINGLE_PARITY, second.LIBERATION) else (first,)
     assert ask(name, *numbers, buffer) == told(answer)
     assert buffer.raw == after
 
@@ -166,12 +167,12 @@ def test_array(code: Code) -> None:
 
 
 def main() -> None:
-    for which in (second.SINGLE_PARITY, second.LIBERATION, second.ROW_DIAGONAL):
+    for which in (second.SINGLE_PARITY, second.LIBERATION, second.ROW_DIAGONAL, second.EVENODD):
         for first in range(10):
             for other in range(10):
                 for length in (0, 518, chosen((69, 70, 285, 286, 300))):
                     test_family(which, first, other, length)
-    for code in SPECIAL_CODES + [second.liberation(5, 5), second.row_diagonal(5), second.single_parity(4, 3)]:
+    for code in SPECIAL_CODES + [second.liberation(5, 5), second.row_diagonal(5), second.evenodd(5), second.single_parity(4, 3)]:
         test_array(code)
     for _ in range(60):
         test_array(random_code(2 + below(4), 1 + below(4), 1 + below(8)))

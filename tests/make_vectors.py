@@ -28,10 +28,10 @@ HUGE = (2**31, 2**32, 2**32 + 1, 2**63, 2**63 + 1, 2**64 - 1)
 
 
 def family_parameters() -> list[tuple[int, int, int]]:
-    """Every family at every parameter that document 01 allows; row-diagonal's second parameter is of no account."""
+    """Every family at every parameter that it allows; the second parameter of row-diagonal and EVENODD is of no account."""
     parity = [(second.SINGLE_PARITY, k, r) for k in range(1, 64) for r in range(1, 33) if (k + 1) * r <= 64]
     liberation = [(second.LIBERATION, w, k) for w in (3, 5, 7) for k in range(2, w + 1)]
-    return parity + liberation + [(second.ROW_DIAGONAL, p, p - 3) for p in (3, 5, 7)]
+    return parity + liberation + [(which, p, p - 3) for which in (second.ROW_DIAGONAL, second.EVENODD) for p in (3, 5, 7)]
 
 
 # Families
@@ -48,7 +48,7 @@ def add_families(vectors: Vectors) -> None:
         if every or turn % 6 == 0:
             vectors.family("family, short buffer", which, first, other, len(sheet) - 1)
         vectors.read("family read back", sheet)
-    for which, first, other in [(0, 1, 1), (0, 63, 1), (1, 7, 7), (2, 7, 0)]:
+    for which, first, other in [(0, 1, 1), (0, 63, 1), (1, 7, 7), (2, 7, 0), (3, 7, 0)]:
         for length in (0, 1, 5, 6, 21):
             vectors.family("family, short buffer", which, first, other, length)
     vectors.family("family, longer buffer", second.LIBERATION, 5, 5, ROOM)
@@ -63,8 +63,8 @@ def add_families_refused(vectors: Vectors) -> None:
     liberation = [(w, 2) for w in (0, 1, 2, 4, 6, 8, 9, 11, 255, *HUGE)]
     liberation += [(w, k) for w in (3, 5, 7) for k in (0, 1, w + 1, w + 2, 2**32 + 2, 2**64 - 1)]
     liberation += [(4, 4), (11, 11), (2**32 + 5, 5)]
-    row_diagonal = [(p, 0) for p in (0, 1, 2, 4, 6, 8, 9, 11, 13, 255, 2**32 + 3, *HUGE)]
-    for which, parameters in enumerate([parity, liberation, row_diagonal]):
+    by_prime = [(p, 0) for p in (0, 1, 2, 4, 6, 8, 9, 11, 13, 255, 2**32 + 3, *HUGE)]
+    for which, parameters in enumerate([parity, liberation, by_prime, by_prime]):
         for turn, (first, other) in enumerate(parameters):
             vectors.family("family refused", which, first, other, (518, 600, 0)[turn % 3])
 
@@ -203,8 +203,8 @@ def add_encodings(vectors: Vectors) -> None:
             vectors.encode("encoding, long symbols", second.sheet_of(code), size, lengths_for(code, size))
     parity = [(second.SINGLE_PARITY, k, r) for k, r in [(1, 1), (1, 32), (63, 1), (7, 8)]]
     liberation = [(second.LIBERATION, w, k) for w, k in [(3, 2), (5, 5), (7, 7)]]
-    row_diagonal = [(second.ROW_DIAGONAL, p, 0) for p in (3, 5, 7)]
-    for which, first, other in parity + liberation + row_diagonal:
+    by_prime = [(which, p, 0) for which in (second.ROW_DIAGONAL, second.EVENODD) for p in (3, 5, 7)]
+    for which, first, other in parity + liberation + by_prime:
         code = second.family(which, first, other)
         for size in (1, 5, 33):
             vectors.encode("encoding, families", second.sheet_of(code), size, lengths_for(code, size))

@@ -32,7 +32,8 @@ def family_codes() -> list[Code]:
     parameters = [(1, 1), (2, 1), (1, 2), (1, 32), (63, 1), (7, 8), (3, 4), (12, 4)]
     parity = [second.single_parity(k, r) for k, r in parameters]
     liberation = [second.liberation(w, k) for w in (3, 5, 7) for k in range(2, w + 1)]
-    return parity + liberation + [second.row_diagonal(p) for p in (3, 5, 7)]
+    by_prime = [family(p) for family in (second.row_diagonal, second.evenodd) for p in (3, 5, 7)]
+    return parity + liberation + by_prime
 
 
 def some_disks(code: Code) -> list[int]:

@@ -6,7 +6,7 @@ from typing import Iterable, Optional
 from arrays import SMALLEST, SPECIAL_CODES, below, chosen, low_rank_code, random_bytes, random_code, random_codes
 from plan_vectors import family_codes, planted_codes, some_disks
 from plans import all_lists, restorable, some_lists, torn_codes
-from second import SQUARE, Code, changed, liberation, row_diagonal, sheet_of, single_parity
+from second import SQUARE, Code, changed, evenodd, liberation, row_diagonal, sheet_of, single_parity
 from second_checker import lost_places
 from second_planner import BUFFER, HALF, LIST_BUFFER, P8, P9, Asked, most_steps
 
@@ -61,6 +61,7 @@ def add_families(questions: Questions) -> None:
             questions.add_code("Liberation", liberation(w, k), shown=w == 3)
     for p in (3, 5, 7):
         questions.add_code("row-diagonal", row_diagonal(p))
+        questions.add_code("EVENODD", evenodd(p))
 
 
 def add_worked_cases(questions: Questions) -> None:
@@ -76,7 +77,8 @@ def without(code: Code, places: list[int]) -> Code:
 
 def add_second_parity(questions: Questions) -> None:
     """P is gone, whole or in part, or a copy of Q: Q can still do it for every data disk."""
-    for code in [liberation(3, 3), liberation(5, 4), liberation(7, 7), row_diagonal(3), row_diagonal(5), row_diagonal(7)]:
+    by_prime = [family(p) for family in (row_diagonal, evenodd) for p in (3, 5, 7)]
+    for code in [liberation(3, 3), liberation(5, 4), liberation(7, 7)] + by_prime:
         first = code.symbols - 2 * code.height
         parity = list(range(first, first + code.height))
         questions.add_code("row parity can't", without(code, parity))
@@ -145,7 +147,7 @@ def add_low_rank(questions: Questions) -> None:
         questions.add_code("zero rows", without(code, list(range(code.symbols))))
         questions.add_code("equal rows", code._replace(rows=code.rows[:1] * code.symbols))
         questions.add_code("equal rows", code._replace(rows=code.rows[:half] * 2))
-    for code in (single_parity(3, 2), liberation(3, 3), liberation(5, 5), row_diagonal(5), row_diagonal(7)):
+    for code in (single_parity(3, 2), liberation(3, 3), liberation(5, 5), row_diagonal(5), row_diagonal(7), evenodd(5)):
         for _ in range(3):
             place, bit = below(code.symbols), below(code.data_symbols)
             rows = code.rows[:place] + (code.rows[place] ^ 2**bit,) + code.rows[place + 1 :]

@@ -148,16 +148,24 @@ def row_diagonal_before(p: int) -> Code:
     return code_of(p - 1, p - 1, [row_parity(p - 1, p - 1), diagonals(p - 1, p)[: p - 1]])
 
 
-SINGLE_PARITY, LIBERATION, ROW_DIAGONAL = 0, 1, 2
+def evenodd(p: int) -> Union[Code, Refusal]:
+    """Q row i is diagonal i and the diagonal that no row of Q is named for, p - 1, which is S."""
+    if p not in (3, 5, 7):
+        return Refusal(36)
+    *named, s = diagonals(p, p)
+    return code_of(p, p - 1, [row_parity(p, p - 1), [diagonal ^ s for diagonal in named]])
+
+
+SINGLE_PARITY, LIBERATION, ROW_DIAGONAL, EVENODD = 0, 1, 2, 3
 
 
 def family(which: int, first: int, second: int) -> Union[Code, Refusal]:
-    """A family by its number in the test records; row-diagonal has no second parameter."""
+    """A family by its number in the test records; row-diagonal and EVENODD have no second parameter."""
     if which == SINGLE_PARITY:
         return single_parity(first, second)
     if which == LIBERATION:
         return liberation(first, second)
-    return row_diagonal(first)
+    return row_diagonal(first) if which == ROW_DIAGONAL else evenodd(first)
 
 
 def write_family(which: int, first: int, second: int, buffer: bytes) -> tuple[Union[int, Refusal], bytes]:
@@ -314,6 +322,9 @@ def test_families() -> None:
         assert all(rank(rows) == code.data_symbols for rows in after_two_losses(code))
         assert not all(rank(rows) == before.data_symbols for rows in after_two_losses(before))
         assert read_code(sheet_of(before)) == before
+        assert all(rank(rows) == evenodd(p).data_symbols for rows in after_two_losses(evenodd(p)))
+    # Diagonal 0 is 1 + 32, diagonal 1 is 2 + 4, and S, which both rows of Q take besides, is 8 + 16.
+    assert evenodd(3) == Code(5, 2, 6, (1, 2, 4, 8, 16, 32, 21, 42, 1 + 32 + 24, 2 + 4 + 24))
     code = liberation(5, 5)
     assert bits_of(code.rows[31]) == [1, 7, 13, 18, 19, 20]
     assert bits_of(code.rows[34]) == [4, 5, 10, 11, 17, 23]
@@ -329,7 +340,7 @@ def test_families() -> None:
     assert single_parity(63, 1).rows[63] == 2**63 - 1
     for k, r in [(0, 1), (1, 0), (1, 33), (64, 1), (4, 13), (2**63, 2)]:
         assert single_parity(k, r) == Refusal(36)
-    assert liberation(4, 3) == liberation(5, 6) == liberation(5, 1) == row_diagonal(4) == Refusal(36)
+    assert liberation(4, 3) == liberation(5, 6) == liberation(5, 1) == row_diagonal(4) == evenodd(4) == Refusal(36)
     assert write_family(1, 5, 6, b"") == (Refusal(36), b"")
     assert write_family(2, 3, 0, bytes(69)) == (Refusal(37), bytes(69))
     assert write_family(2, 3, 0, b"\7" * 71) == (70, sheet_of(row_diagonal(3)) + b"\7")

@@ -24,6 +24,7 @@ static void families_and_encoding(void) {
     expect("single parity", navorzim_single_parity(1, 1, NULL, 0).number, 37);
     expect("Liberation", navorzim_liberation(3, 2, NULL, 0).number, 37);
     expect("row-diagonal", navorzim_row_diagonal(3, NULL, 0).number, 37);
+    expect("EVENODD", navorzim_evenodd(3, NULL, 0).number, 37);
     expect("encode, all", navorzim_encode(NULL, 0, 1, NULL, 0, NULL, 0).number, 1);
     expect("encode, sheet", navorzim_encode(NULL, 0, 1, contents, 1, stripe, 2).number, 1);
     expect("encode, data", navorzim_encode(sheet, 22, 1, NULL, 0, stripe, 2).number, 33);

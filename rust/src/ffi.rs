@@ -72,6 +72,7 @@ extern "C" {
     fn navorzim_single_parity(data_disks: u64, rows: u64, buffer: BytesMut, buffer_length: usize) -> Sheet;
     fn navorzim_liberation(w: u64, data_disks: u64, buffer: BytesMut, buffer_length: usize) -> Sheet;
     fn navorzim_row_diagonal(p: u64, buffer: BytesMut, buffer_length: usize) -> Sheet;
+    fn navorzim_evenodd(p: u64, buffer: BytesMut, buffer_length: usize) -> Sheet;
     fn navorzim_encode(
         sheet: Bytes,
         sheet_length: usize,
@@ -158,6 +159,10 @@ pub fn liberation(w: u64, data_disks: u64, buffer: &mut [u8]) -> Sheet {
 
 pub fn row_diagonal(p: u64, buffer: &mut [u8]) -> Sheet {
     unsafe { navorzim_row_diagonal(p, buffer.as_mut_ptr(), buffer.len()) }
+}
+
+pub fn evenodd(p: u64, buffer: &mut [u8]) -> Sheet {
+    unsafe { navorzim_evenodd(p, buffer.as_mut_ptr(), buffer.len()) }
 }
 
 pub fn encode(sheet: &[u8], size: u64, contents: &[u8], stripe: &mut [u8]) -> Verdict {

@@ -66,6 +66,11 @@ pub enum Family {
         /// 3, 5 or 7.
         p: u64,
     },
+    /// p data disks of p − 1 rows, row parity, and parity of the diagonals, each with the one that has no row of its own.
+    EvenOdd {
+        /// 3, 5 or 7.
+        p: u64,
+    },
 }
 
 impl Family {
@@ -79,6 +84,7 @@ impl Family {
             Family::SingleParity { data_disks, rows } => ffi::single_parity(data_disks, rows, buffer),
             Family::Liberation { w, data_disks } => ffi::liberation(w, data_disks, buffer),
             Family::RowDiagonal { p } => ffi::row_diagonal(p, buffer),
+            Family::EvenOdd { p } => ffi::evenodd(p, buffer),
         };
         unless_refused(written.number, written.place, written.length as usize)
     }

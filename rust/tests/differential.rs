@@ -113,13 +113,14 @@ fn change_list(random: &mut Random, code: &model::Code, disk: usize, list: Optio
 fn families() {
     let mut random = Random::new(1);
     let mut parameters: Vec<(u64, u64)> = (0..70).flat_map(|a| (0..40).map(move |b| (a, b))).collect();
-    parameters.extend([(u64::MAX, 1), (1, u64::MAX), (1 << 63, 2), (u64::MAX, u64::MAX), (5, 1 << 32)]);
-    calls(3 * parameters.len());
+    parameters.extend([(u64::MAX, 1), (1, u64::MAX), (1 << 63, 2), (u64::MAX, u64::MAX), (5, 1 << 32), ((1 << 32) + 3, 0)]);
+    calls(4 * parameters.len());
     for (a, b) in parameters {
         for (name, family) in [
             ("single parity", Family::SingleParity { data_disks: a, rows: b }),
             ("liberation", Family::Liberation { w: a, data_disks: b }),
             ("row-diagonal", Family::RowDiagonal { p: a }),
+            ("evenodd", Family::EvenOdd { p: a }),
         ] {
             let expected = model::family(name, a, b);
             let right = expected.as_ref().map_or(0, Vec::len);

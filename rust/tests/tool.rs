@@ -46,6 +46,7 @@ fn families_are_written() {
         ("liberation 5 5", "liberation", 5, 5),
         ("liberation 7 2", "liberation", 7, 2),
         ("row-diagonal 3", "row-diagonal", 3, 0),
+        ("evenodd 7", "evenodd", 7, 0),
         ("single-parity 63 1", "single parity", 63, 1),
         ("single-parity 1 32", "single parity", 1, 32),
     ] {
@@ -58,6 +59,7 @@ fn families_are_written() {
     assert!(sentence.ends_with("liberation w 4, k 4"), "{sentence}");
     folder.refused("family single-parity 18446744073709551615 2 -o new", 36, 0);
     folder.refused("family row-diagonal 4 -o new", 36, 0);
+    folder.refused("family evenodd 11 -o new", 36, 0);
 }
 
 #[test]
@@ -1031,7 +1033,7 @@ fn pictures_of_every_family_fit() {
     let folder = Folder::new();
     let single = (1..64).flat_map(|k| (1..=32).map(move |r| ("single parity", k, r)));
     let liberation = [3, 5, 7].into_iter().flat_map(|w| (2..=w).map(move |k| ("liberation", w, k)));
-    let diagonal = [3, 5, 7].map(|p| ("row-diagonal", p, 0));
+    let diagonal = ["row-diagonal", "evenodd"].into_iter().flat_map(|name| [3, 5, 7].map(|p| (name, p, 0)));
     let mut drawn = 0;
     for (name, a, b) in single.chain(liberation).chain(diagonal) {
         let Ok(sheet) = model::family(name, a, b) else { continue };

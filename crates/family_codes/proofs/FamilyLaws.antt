@@ -1,7 +1,7 @@
 -- Laws of the families: sums over disks, what holds of the parameters that refusal 36 lets through, and where rows stand. Assumes nothing.
 use mathlib.Core.Path.{_≡_, refl, sym, ap, ap₂, _∙_}
 use mathlib.Core.List.{List}
-use mathlib.Core.Bool.{Bool, true, false, _&&_, _||_, false≢true}
+use mathlib.Core.Bool.{Bool, true, false, cond, _&&_, _||_, false≢true}
 use Prim.Native.Nat.{ℕ, zero, suc, _+_, _-_, _*_, _%_, _^_, _≤_, _<_}
 use native.Mathlib.Nat.{mul-le-mul, mod-lt, mod-add-mod, add-mod-right, mod-eq-of-lt}
 use native.Mathlib.Numerals.{add-one}
@@ -9,15 +9,15 @@ use native.Mathlib.Omega.{arith}
 use lib.Bits.{bitXor, xor-lt, xor-zero-r, or-zero-l}
 use lib.Dec.{eqb, leb}
 use lib.Pow.{pow-pos}
-use borrow.Author.Tests.{leb-true, eqb-true, eq-eqb, ne-eqb, lt-ltb, le-ltb}
+use borrow.Author.Tests.{leb-true, eqb-true, le-leb, eq-eqb, ne-eqb, lt-ltb, le-ltb}
 use Rattle.bits.specs.BitSets.{with}
 use Rattle.codes.specs.Codes.{LinearCode, rowsOf}
 use Rattle.codes.specs.Layouts.{symbolsOf, firstSymbol, heightOf, diskOf}
 use Rattle.codes.specs.declared.Layout.{Layout}
 use Rattle.codes.proofs.LayoutLaws.{strips-in-order, strip-within, on-disk-between, on-own-disk, disk-of-below}
 use Rattle.family_codes.specs.declared.Family.{Family}
-use Rattle.family_codes.specs.declared.Family.the-variants.{SingleParity, Liberation, RowDiagonal}
-use Rattle.family_codes.specs.Families.{sumOver, unit, entry, dataOrRowParity, diagonalRow, diagonalEntry, dataDisks, familyHeight, parityDisks, threeFiveOrSeven, belowLimits, listed, dataSymbols, familyLayout, qRow, parityRow, diskRow, familyRow, familyCode}
+use Rattle.family_codes.specs.declared.Family.the-variants.{SingleParity, Liberation, RowDiagonal, EvenOdd}
+use Rattle.family_codes.specs.Families.{sumOver, unit, entry, dataOrRowParity, diagonalRow, diagonalEntry, evenOddS, dataDisks, familyHeight, parityDisks, threeFiveOrSeven, belowLimits, listed, dataSymbols, familyLayout, qRow, parityRow, diskRow, familyRow, familyCode}
 use Rattle.family_codes.specs.InnerDataSums.{qEntry, entryOf, dataSum}
 
 -- ------------------------------------------------------------------
@@ -148,6 +148,31 @@ module _ (p i : ℕ) (h : i + 1 < p) where
       ∙ ap (bitXor (dataSum (RowDiagonal p) 1 i)) (sym (simp (row-on-parity, le-ltb (i + 1) (p - 1) l)))
       ∙ qRow-split
 
+-- EVENODD's S is the diagonal p − 1, ..
+module _ (p : ℕ) (h : 1 ≤ p) where
+  row-on-last-diagonal : (c : ℕ) → c < p → diagonalRow p (p - 1) c ≡ p - 1 - c
+  row-on-last-diagonal c l =
+      let turn : p - 1 + p - c ≡ p - 1 - c + p = omega arith in
+      let below : p - 1 - c < p = omega arith in
+      ap (λ (n : ℕ). n % p) turn ∙ add-mod-right (p - 1 - c) p ∙ mod-eq-of-lt below
+
+  last-diagonal-entry : (family : Family) (c : ℕ) → c < p
+      → cond (leb 1 c) (entry family c (p - 1 - c)) 0 ≡ diagonalEntry (entry family) p (p - 1) c
+  unfolding diagonalEntry
+  last-diagonal-entry family zero l =
+      sym (simp (row-on-last-diagonal zero l, le-ltb (p - 1 - zero) (p - 1) (omega arith)))
+  last-diagonal-entry family (suc c) l =
+      sym (simp (row-on-last-diagonal (suc c) l, lt-ltb (p - 1 - suc c) (p - 1) (omega arith), le-leb 1 (suc c) (omega arith)))
+
+  evenOddS-is-diagonal : (family : Family) → evenOddS family p ≡ sumOver p (diagonalEntry (entry family) p (p - 1))
+  evenOddS-is-diagonal family = sumOver-equal p _ (diagonalEntry (entry family) p (p - 1)) (λ c l. last-diagonal-entry family c l)
+
+  -- .. which Q has besides the row's own
+  pub qRow-of-even-odd : (i : ℕ) → bitXor (dataSum (EvenOdd p) 1 (p - 1)) (dataSum (EvenOdd p) 1 i) ≡ qRow (EvenOdd p) i
+  unfolding entryOf
+  qRow-of-even-odd i =
+      ap (λ (s : ℕ). bitXor s (dataSum (EvenOdd p) 1 i)) (sym (evenOddS-is-diagonal (EvenOdd p)))
+
 -- ------------------------------------------------------------------
 -- Parameters
 
@@ -183,6 +208,10 @@ liberation-bounds w k h =
 pub row-diagonal-bounds : (p : ℕ) → listed (RowDiagonal p) ≡ true → (3 ≤ p) × (p ≤ 7)
 unfolding listed
 row-diagonal-bounds p h = threeFiveOrSeven-bounds p h
+
+pub even-odd-bounds : (p : ℕ) → listed (EvenOdd p) ≡ true → (3 ≤ p) × (p ≤ 7)
+unfolding listed
+even-odd-bounds p h = threeFiveOrSeven-bounds p h
 
 -- Data disks, parity disks and rows of an array whose n, r and N are within their limits
 pub record ShapeBounds (disks parities height : ℕ) : Type 0 where
@@ -227,6 +256,9 @@ listed-bounds (Liberation w k) h =
 listed-bounds (RowDiagonal p) h =
     let b = row-diagonal-bounds p h in
     small-shape-bounds (p - 1) (p - 1) (omega arith) (omega arith) (omega arith) (omega arith)
+listed-bounds (EvenOdd p) h =
+    let b = even-odd-bounds p h in
+    small-shape-bounds p (p - 1) (omega arith) (omega arith) (omega arith) (omega arith)
 
 -- ------------------------------------------------------------------
 -- N and K of a listed family

@@ -6,13 +6,13 @@ use native.Mathlib.Omega.{arith}
 use lib.Bits.{xor-lt}
 use lib.Dec.{eqb, leb, ltb}
 use lib.Pow.{pow-pos, pow-lt}
-use borrow.Author.Tests.{ltb-true}
+use borrow.Author.Tests.{leb-true, ltb-true}
 use Rattle.codes.proofs.RowLaws.{length-rowsOf, rowsOf-below, getD-rowsOf-behind}
 use Rattle.codes.specs.Codes.{WithinLimits}
 use Rattle.codes.specs.Layouts.{symbolsOf, firstSymbol, diskOf}
 use Rattle.family_codes.specs.declared.Family.{Family}
-use Rattle.family_codes.specs.declared.Family.the-variants.{SingleParity, Liberation, RowDiagonal}
-use Rattle.family_codes.specs.Families.{unit, entry, rowParity, liberationRow, extraRow, extraEntry, liberationEntry, dataOrRowParity, diagonalRow, diagonalEntry, qRow, dataDisks, familyHeight, parityRow, diskRow, familyRow, familyLayout, dataSymbols, familyCode, listed}
+use Rattle.family_codes.specs.declared.Family.the-variants.{SingleParity, Liberation, RowDiagonal, EvenOdd}
+use Rattle.family_codes.specs.Families.{unit, entry, sumOver, rowParity, liberationRow, extraRow, extraEntry, liberationEntry, dataOrRowParity, diagonalRow, diagonalEntry, evenOddS, qRow, dataDisks, familyHeight, parityRow, diskRow, familyRow, familyLayout, dataSymbols, familyCode, listed}
 use Rattle.family_codes.proofs.FamilyLaws.{sumOver-below, listed-bounds, dataSymbol-below, mod-is-row, symbols-to, dataSymbols-from, dataSymbols-to, row-of-symbol}
 
 -- Both ways of a choice are below
@@ -56,6 +56,15 @@ dataOrRowParity-below family c j m =
     cond-below (ltb c (dataDisks family)) (entry family c j) (rowParity family j) (2 ^ dataSymbols family)
     (λ t. entry-below family c j (ltb-true c (dataDisks family) t) m) (rowParity-below family j m)
 
+-- S has K bits
+evenOddS-below : (p : ℕ) → evenOddS (EvenOdd p) p < 2 ^ dataSymbols (EvenOdd p)
+evenOddS-below p =
+    let family = EvenOdd p in
+    let K = dataSymbols family in
+    sumOver-below K p _
+    (λ c l. cond-below (leb 1 c) (entry family c (p - 1 - c)) 0 (2 ^ K)
+    (λ t. entry-below family c (p - 1 - c) l (omega (arith, leb-true 1 c t))) (pow-pos K))
+
 -- Q has K bits
 qRow-below : (family : Family) → listed family ≡ true → (i : ℕ) → qRow family i < 2 ^ dataSymbols family
 qRow-below (SingleParity k r) h i = pow-pos (dataSymbols (SingleParity k r))
@@ -67,6 +76,11 @@ qRow-below (RowDiagonal p) h i =
     let K = dataSymbols family in
     sumOver-below K p (diagonalEntry (dataOrRowParity family) p i)
     (λ c l. diagonalEntry-below (dataOrRowParity family) p i c K (λ j m. dataOrRowParity-below family c j m))
+qRow-below (EvenOdd p) h i =
+    let family = EvenOdd p in
+    let K = dataSymbols family in
+    xor-lt K (evenOddS family p) (sumOver p (diagonalEntry (entry family) p i)) (evenOddS-below p)
+    (sumOver-below K p (diagonalEntry (entry family) p i) (λ c l. diagonalEntry-below (entry family) p i c K (λ j m. entry-below family c j l m)))
 
 module _ (family : Family) (h : listed family ≡ true) where
   parityRow-below : (parity i : ℕ) → i < familyHeight family → parityRow family parity i < 2 ^ dataSymbols family

@@ -1,4 +1,4 @@
--- Families that can be asked for by name (document 01).
+-- Families that can be asked for by name (document 01; EVENODD: document 02, §1).
 use mathlib.Core.Bool.{Bool, cond, _&&_, _||_}
 use Prim.Native.Nat.{ℕ, zero, suc, _+_, _-_, _*_, _/_, _%_, _^_}
 use lib.Bits.{bitXor}
@@ -7,7 +7,7 @@ use Rattle.codes.specs.Codes.{LinearCode, rowsOf}
 use Rattle.codes.specs.Layouts.{symbolsOf, firstSymbol, diskOf}
 use Rattle.codes.specs.declared.Layout.{Layout}
 use Rattle.family_codes.specs.declared.Family.{Family}
-use Rattle.family_codes.specs.declared.Family.the-variants.{SingleParity, Liberation, RowDiagonal}
+use Rattle.family_codes.specs.declared.Family.the-variants.{SingleParity, Liberation, RowDiagonal, EvenOdd}
 
 -- ------------------------------------------------------------------
 -- The array of a family
@@ -17,18 +17,21 @@ abbrev pub dataDisks : Family → ℕ
 dataDisks (SingleParity k r) = k
 dataDisks (Liberation w k) = k
 dataDisks (RowDiagonal p) = p - 1
+dataDisks (EvenOdd p) = p
 
 -- r, the rows of a disk
 abbrev pub familyHeight : Family → ℕ
 familyHeight (SingleParity k r) = r
 familyHeight (Liberation w k) = w
 familyHeight (RowDiagonal p) = p - 1
+familyHeight (EvenOdd p) = p - 1
 
 -- One parity disk, or P and Q
 abbrev pub parityDisks : Family → ℕ
 parityDisks (SingleParity k r) = 1
 parityDisks (Liberation w k) = 2
 parityDisks (RowDiagonal p) = 2
+parityDisks (EvenOdd p) = 2
 
 -- n disks of r symbols each: the data disks; parity disks follow
 abbrev pub familyLayout : Family → Layout
@@ -74,23 +77,31 @@ extraEntry family w i c = cond (leb 1 c && eqb (extraRow w c) i) (entry family c
 abbrev pub liberationEntry : Family → ℕ → ℕ → ℕ → ℕ
 liberationEntry family w i c = bitXor (entry family c (liberationRow w i c)) (extraEntry family w i c)
 
+-- Row-diagonal: Q row i takes, of each disk c .., the row j .. with j + c = i mod p.
+-- EVENODD: Q whose row i is .. the entries at row (i − c) mod p of each data disk c, ..
+abbrev pub diagonalRow : ℕ → ℕ → ℕ → ℕ
+diagonalRow p i c = (i + p - c) % p
+
+-- Row-diagonal: the row j below p − 1, if there is one; no other row below p lies on the diagonal.
+-- EVENODD: .. an entry at row p − 1 counting as zero. Row j of disk c is `disks c j`
+unfoldable pub diagonalEntry : (ℕ → ℕ → ℕ) → ℕ → ℕ → ℕ → ℕ
+diagonalEntry disks p i c = cond (ltb (diagonalRow p i c) (p - 1)) (disks c (diagonalRow p i c)) 0
+
 -- Row-diagonal takes the diagonals over the data disks and the row parity disk, which is disk p − 1. Row j of disk c:
 unfoldable pub dataOrRowParity : Family → ℕ → ℕ → ℕ
 dataOrRowParity family c j = cond (ltb c (dataDisks family)) (entry family c j) (rowParity family j)
 
--- Q row i takes, of each disk c .., the row j .. with j + c = i mod p, ..
-abbrev pub diagonalRow : ℕ → ℕ → ℕ → ℕ
-diagonalRow p i c = (i + p - c) % p
+-- EVENODD: S is the XOR of the entries at row p − 1 − c of disk c, for c from 1 to p − 1
+abbrev pub evenOddS : Family → ℕ → ℕ
+evenOddS family p = sumOver p (λ c. cond (leb 1 c) (entry family c (p - 1 - c)) 0)
 
--- .. below p − 1 .., if there is one: no other row below p lies on the diagonal. `disks c j` is row j of disk c
-unfoldable pub diagonalEntry : (ℕ → ℕ → ℕ) → ℕ → ℕ → ℕ → ℕ
-diagonalEntry disks p i c = cond (ltb (diagonalRow p i c) (p - 1)) (disks c (diagonalRow p i c)) 0
-
--- Row i of Q: Liberation takes of each data disk c, row-diagonal of each disk c from 0 to p − 1. Single parity has no Q
+-- Row i of Q. Liberation: of each disk c. Row-diagonal: of each disk c from 0 to p − 1. EVENODD: S XOR the entries .. of each data disk c.
+-- Single parity has no Q
 abbrev pub qRow : Family → ℕ → ℕ
 qRow (SingleParity k r) i = 0
 qRow (Liberation w k) i = sumOver k (liberationEntry (Liberation w k) w i)
 qRow (RowDiagonal p) i = sumOver p (diagonalEntry (dataOrRowParity (RowDiagonal p)) p i)
+qRow (EvenOdd p) i = bitXor (evenOddS (EvenOdd p) p) (sumOver p (diagonalEntry (entry (EvenOdd p)) p i))
 
 -- Row i of a parity disk, counted from 0: parities P and Q
 unfoldable pub parityRow : Family → ℕ → ℕ → ℕ
@@ -133,3 +144,4 @@ unfoldable pub listed : Family → Bool
 listed (SingleParity k r) = leb 1 k && leb 1 r && belowLimits (k + 1) r
 listed (Liberation w k) = threeFiveOrSeven w && leb 2 k && leb k w
 listed (RowDiagonal p) = threeFiveOrSeven p
+listed (EvenOdd p) = threeFiveOrSeven p

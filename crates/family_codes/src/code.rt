@@ -1,7 +1,7 @@
 // The code of a family: the row of each symbol.
 ghost use mathlib.Core.Path.{_≡_};
 ghost use mathlib.Core.Bool.{true};
-ghost use Prim.Native.Nat.{_+_, _<_};
+ghost use Prim.Native.Nat.{_+_, _≤_, _<_};
 ghost use Rattle.bits.specs.Numerals.{numeral};
 ghost use Rattle.codes.specs.Codes.{linear};
 ghost use Rattle.codes.specs.Layouts.{symbolsOf};
@@ -18,9 +18,9 @@ use bits::empty_sets;
 use bits::sum;
 use codes::Code;
 
-// The sum over the data disks in row `row` of a parity disk, counted from 0.
+// The sum over the data disks in row `row` of a parity disk, counted from 0; for Q also on the diagonal after the last row.
 fn data_sum(family: Family, parity: usize, row: usize) -> BitSet
-    requires { ⌜ (listed family ≡ true) × (row < familyHeight family) ⌝ }
+    requires { ⌜ (listed family ≡ true) × (row ≤ familyHeight family) × (parity ≡ 0 → row < familyHeight family) ⌝ }
     ensures { λ r. ⌜ numeral r ≡ dataSum family parity row ⌝ }
 {
     let disks = data_disks_of(family);
@@ -48,6 +48,17 @@ fn row_diagonal_q(p: usize, row: usize) -> BitSet
     sum(of_data, data_sum(family, 0, from))
 }
 
+// Row `row` of EVENODD's Q. S is the sum on diagonal p - 1, which is no row's own.
+fn even_odd_q(p: usize, row: usize) -> BitSet
+    requires { ⌜ (listed (Family.EvenOdd p) ≡ true) × (row + 1 < p) ⌝ }
+    ensures { λ r. ⌜ numeral r ≡ qRow (Family.EvenOdd p) row ⌝ }
+{
+    let family = Family::EvenOdd { p };
+    let s = data_sum(family, 1, p - 1);
+    let diagonal = data_sum(family, 1, row);
+    sum(s, diagonal)
+}
+
 // Row `row` of a parity disk, counted from 0.
 fn parity_row(family: Family, parity: usize, row: usize) -> BitSet
     requires { ⌜ (listed family ≡ true) × (row < familyHeight family) ⌝ }
@@ -66,6 +77,7 @@ fn parity_row(family: Family, parity: usize, row: usize) -> BitSet
             data_disks: _,
         } => data_sum(family, 1, row),
         Family::RowDiagonal { p } => row_diagonal_q(p, row),
+        Family::EvenOdd { p } => even_odd_q(p, row),
     }
 }
 

@@ -1,7 +1,7 @@
 // What a row of the generator matrix takes of a disk.
 ghost use mathlib.Core.Path.{_≡_};
 ghost use mathlib.Core.Bool.{true};
-ghost use Prim.Native.Nat.{_+_, _<_};
+ghost use Prim.Native.Nat.{_+_, _≤_, _<_};
 ghost use Rattle.bits.specs.Numerals.{numeral};
 ghost use Rattle.family_codes.specs.Families.{listed, dataDisks, familyHeight, entry, liberationEntry, extraEntry, diagonalEntry};
 ghost use Rattle.family_codes.specs.InnerDataSums.{entryOf};
@@ -39,7 +39,7 @@ fn extra_entry(family: Family, w: usize, row: usize, disk: usize) -> BitSet
 
 // What Liberation's Q takes of a disk.
 fn liberation_entry(family: Family, w: usize, row: usize, disk: usize) -> BitSet
-    requires { ⌜ (listed family ≡ true) × (familyHeight family ≡ w) × (row < w) × (disk < dataDisks family) ⌝ }
+    requires { ⌜ (listed family ≡ true) × (familyHeight family ≡ w) × (row ≤ w) × (disk < dataDisks family) ⌝ }
     ensures { λ r. ⌜ numeral r ≡ liberationEntry family w row disk ⌝ }
 {
     let diagonal = identity_row(family, disk, (row + disk) % w);
@@ -58,9 +58,10 @@ fn diagonal_entry(family: Family, p: usize, row: usize, disk: usize) -> BitSet
     identity_row(family, disk, from)
 }
 
-// What row `row` of a parity disk, counted from 0, takes of a data disk. Single parity has no parity disk 1.
+// What row `row` of a parity disk, counted from 0, takes of a data disk; for Q also on the diagonal after the last row.
+// Single parity has no parity disk 1.
 pub fn entry_of(family: Family, parity: usize, row: usize, disk: usize) -> BitSet
-    requires { ⌜ (listed family ≡ true) × (row < familyHeight family) × (disk < dataDisks family) ⌝ }
+    requires { ⌜ (listed family ≡ true) × (row ≤ familyHeight family) × (parity ≡ 0 → row < familyHeight family) × (disk < dataDisks family) ⌝ }
     ensures { λ r. ⌜ numeral r ≡ entryOf family parity row disk ⌝ }
 {
     if parity == 0 {
@@ -73,5 +74,6 @@ pub fn entry_of(family: Family, parity: usize, row: usize, disk: usize) -> BitSe
         } => empty(),
         Family::Liberation { w, data_disks: _ } => liberation_entry(family, w, row, disk),
         Family::RowDiagonal { p } => diagonal_entry(family, p, row, disk),
+        Family::EvenOdd { p } => diagonal_entry(family, p, row, disk),
     }
 }

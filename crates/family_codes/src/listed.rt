@@ -56,6 +56,7 @@ pub fn is_listed(family: Family) -> bool
         Family::SingleParity { data_disks, rows } => single_parity_listed(data_disks, rows),
         Family::Liberation { w, data_disks } => liberation_listed(w, data_disks),
         Family::RowDiagonal { p } => three_five_or_seven(p),
+        Family::EvenOdd { p } => three_five_or_seven(p),
     }
 }
 
@@ -71,6 +72,7 @@ pub fn data_disks_of(family: Family) -> usize
         } => data_disks,
         Family::Liberation { w: _, data_disks } => data_disks,
         Family::RowDiagonal { p } => p - 1,
+        Family::EvenOdd { p } => p,
     }
 }
 
@@ -86,6 +88,7 @@ fn height_of(family: Family) -> usize
         } => rows,
         Family::Liberation { w, data_disks: _ } => w,
         Family::RowDiagonal { p } => p - 1,
+        Family::EvenOdd { p } => p - 1,
     }
 }
 
@@ -103,6 +106,7 @@ fn parity_disks_of(family: Family) -> usize
             data_disks: _,
         } => 2,
         Family::RowDiagonal { p: _ } => 2,
+        Family::EvenOdd { p: _ } => 2,
     }
 }
 

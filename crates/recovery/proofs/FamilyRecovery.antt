@@ -1,4 +1,4 @@
--- Each disk of a row-diagonal array has a plan, for every listed p: elimination, computed over the definitions. Assumes nothing.
+-- Each disk of a row-diagonal or EVENODD array has a plan, for every listed p: elimination, computed over the definitions. Assumes nothing.
 use mathlib.Core.Path.{_≡_, refl, sym, _∙_, subst}
 use mathlib.Core.Bool.{Bool, true, false, _&&_, _||_, false≢true}
 use Prim.Native.Nat.{ℕ}
@@ -12,7 +12,7 @@ use Rattle.codes.specs.Codes.{rowsOf}
 use Rattle.codes.specs.Layouts.{symbolsOf, firstSymbol, heightOf, diskOf, onDisk}
 use Rattle.family_codes.specs.Families.{listed, threeFiveOrSeven, familyCode, familyRow, diskRow, parityRow, dataOrRowParity, unit, sumOver, diagonalEntry}
 use Rattle.family_codes.specs.declared.Family.{Family}
-use Rattle.family_codes.specs.declared.Family.the-variants.{RowDiagonal}
+use Rattle.family_codes.specs.declared.Family.the-variants.{RowDiagonal, EvenOdd}
 use Rattle.family_codes.proofs.LimitLaws.{familyCode-within-limits}
 use Rattle.gf2.specs.InnerElimination.{pivotFor, reducePatterns, remaining, unitsFrom}
 use Rattle.gf2.specs.InnerSubsetPlans.{survivors}
@@ -56,3 +56,15 @@ row-diagonal-computed = refl
 pub row-diagonal-recovers-each-disk : RecoversEachDisk RowDiagonal
 unfolding listed
 row-diagonal-recovers-each-disk = recovers-if-none-found RowDiagonal (λ p. refl) row-diagonal-computed
+
+-- ------------------------------------------------------------------
+-- EVENODD
+
+evenodd-computed : noneFound EvenOdd ≡ true
+unfolding allBelow familyCode familyRow diskRow parityRow unit sumOver diagonalEntry rowsOf tabulate symbolsOf firstSymbol heightOf diskOf onDisk symbolsIn padded unitsFrom survivors remaining reducePatterns pivotFor oddPattern overlap count countIn scale
+evenodd-computed = refl
+
+-- Each disk of an EVENODD array has a plan
+pub evenodd-recovers-each-disk : RecoversEachDisk EvenOdd
+unfolding listed
+evenodd-recovers-each-disk = recovers-if-none-found EvenOdd (λ p. refl) evenodd-computed

@@ -153,7 +153,8 @@ fn family_of(which: usize, first: usize, second: usize) -> Family {
             w: first,
             data_disks: second,
         },
-        _ => Family::RowDiagonal { p: first },
+        2 => Family::RowDiagonal { p: first },
+        _ => Family::EvenOdd { p: first },
     }
 }
 

@@ -84,6 +84,7 @@ pub fn family(name: &str, a: u64, b: u64) -> Result<Vec<u8>, No> {
         }
         "liberation" if matches!(a, 3 | 5 | 7) && (2..=a).contains(&b) => (b as usize, a as usize, 2),
         "row-diagonal" if matches!(a, 3 | 5 | 7) => (a as usize - 1, a as usize - 1, 2),
+        "evenodd" if matches!(a, 3 | 5 | 7) => (a as usize, a as usize - 1, 2),
         _ => return Err((36, 0)),
     };
     let mut places: Vec<HashSet<(usize, usize)>> = Vec::new();
@@ -114,6 +115,10 @@ fn diagonal(name: &str, data_disks: usize, height: usize, i: usize) -> HashSet<(
             let p = height + 1;
             q.extend((0..height).filter(|j| (j + c) % p == i % p).map(|j| (c, j)));
         }
+    }
+    // EVENODD's S: row p - 1 - c of each disk c from 1 on. No term of it lies on the diagonal.
+    if name == "evenodd" {
+        q.extend((1..data_disks).map(|c| (c, height - c)));
     }
     // Row-diagonal's disk p - 1 is P. The row of it on diagonal i is row i + 1, if P has it, and that is this row of every data disk.
     if name == "row-diagonal" && i + 1 < height {

@@ -80,9 +80,10 @@ pub fn code(random: &mut Random) -> Code {
 
 /// A family's code.
 fn family(random: &mut Random) -> Code {
-    let sheet = match random.below(3) {
+    let sheet = match random.below(4) {
         0 => super::family("liberation", 5, 2 + random.below(4) as u64),
         1 => super::family("row-diagonal", random.pick(&[3, 5, 7]), 0),
+        2 => super::family("evenodd", random.pick(&[3, 5, 7]), 0),
         _ => super::family("single parity", 1 + random.below(8) as u64, 1 + random.below(7) as u64),
     };
     super::read_code(&sheet.expect("listed")).expect("a family's sheet is good")

@@ -66,8 +66,13 @@ fn family(arguments: &mut Arguments) -> Result<String, Failure> {
             let p = arguments.number("P")?;
             (Family::RowDiagonal { p }, format!("p {p}"))
         }
+        Some("evenodd") => {
+            let p = arguments.number("P")?;
+            (Family::EvenOdd { p }, format!("p {p}"))
+        }
         _ => {
-            let what = format!("there is no family '{}', but single-parity, liberation and row-diagonal", shown(&name));
+            let listed = "single-parity, liberation, row-diagonal and evenodd";
+            let what = format!("there is no family '{}', but {listed}", shown(&name));
             return Err(arguments.misuse(what));
         }
     };

@@ -47,12 +47,14 @@ pub const FAMILY: &str = "\
 usage: navorzim family single-parity K R -o CODE
        navorzim family liberation W K -o CODE
        navorzim family row-diagonal P -o CODE
+       navorzim family evenodd P -o CODE
 
 Writes the code sheet CODE.
 
   single-parity  K data disks of R rows and one parity disk; n at most 64, r 32, N 64
   liberation     K data disks of W rows and two parity disks; W is 3, 5 or 7, K 2 to W
   row-diagonal   P - 1 data disks of P - 1 rows and two parity disks; P is 3, 5 or 7
+  evenodd        P data disks of P - 1 rows and two parity disks; P is 3, 5 or 7
 
 Refused: 36.
 

@@ -91,7 +91,7 @@ impl Code {
     pub fn role(&self, disk: usize) -> Option<&'static str> {
         let parities: &[&str] = match self.family()?.0 {
             Family::SingleParity { .. } => &["P"],
-            Family::Liberation { .. } | Family::RowDiagonal { .. } => &["P", "Q"],
+            Family::Liberation { .. } | Family::RowDiagonal { .. } | Family::EvenOdd { .. } => &["P", "Q"],
         };
         let data_disks = self.disks.saturating_sub(parities.len());
         Some(disk.checked_sub(data_disks).map_or("data", |parity| parities.get(parity).unwrap_or(&"")))
@@ -111,6 +111,7 @@ impl Code {
                 format!("Liberation, w {r}, k {}", n.saturating_sub(2)),
             ),
             (Family::RowDiagonal { p: r + 1 }, format!("Row-diagonal, p {}", r + 1)),
+            (Family::EvenOdd { p: r + 1 }, format!("EVENODD, p {}", r + 1)),
             (
                 Family::SingleParity { data_disks: n.saturating_sub(1), rows: r },
                 format!("Single parity, k {}, r {r}", n.saturating_sub(1)),

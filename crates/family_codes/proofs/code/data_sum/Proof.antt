@@ -29,7 +29,7 @@ loop-holds c = (omega arith, c .empty .ensures)
 entry-of-requires : tie.Need-entry-of-requires Inv-loop μ-loop
 entry-of-requires c κs =
     let start = c .before .before .before .before in
-    (start .pre .0, start .pre .1, omega (arith, c .loop-test .taken, c .before .before .before .data-disks-of .ensures))
+    (start .pre .0, start .pre .1, start .pre .2, omega (arith, c .loop-test .taken, c .before .before .before .data-disks-of .ensures))
 
 sum-requires : tie.Need-sum-requires Inv-loop μ-loop
 sum-requires c κs = tt

@@ -36,6 +36,15 @@ row-diagonal-q-requires c κs =
     let start = c .before .before .before .before in
     (sym (ap listed e) ∙ start .pre .0, omega (arith, start .pre .1, ap familyHeight e))
 
+enum-known-family-2 : tie.Need-enum-known-family-2
+enum-known-family-2 c = search needs
+
+even-odd-q-requires : tie.Need-even-odd-q-requires
+even-odd-q-requires c κs =
+    let e = c .before .family2 .given .1 in
+    let start = c .before .before .before .before in
+    (sym (ap listed e) ∙ start .pre .0, omega (arith, start .pre .1, ap familyHeight e))
+
 returns-2 : tie.Need-returns-2
 returns-2 c =
     let a = c .before .before .before .before .args in
@@ -56,6 +65,12 @@ returns-4 c =
     c .row-diagonal-q .ensures
     ∙ parityRow-of-Q (a .family) _ (a .parity) (a .row) (c .before .before .before .before .if1 .left) (c .before .before .family .given .1)
 
+returns-5 : tie.Need-returns-5
+returns-5 c =
+    let a = c .before .before .before .before .before .args in
+    c .even-odd-q .ensures
+    ∙ parityRow-of-Q (a .family) _ (a .parity) (a .row) (c .before .before .before .before .if1 .left) (c .before .before .family2 .given .1)
+
 pub parity-row-spec : {M : Type 1} → statement M
 parity-row-spec =
     tie.close
@@ -68,6 +83,9 @@ parity-row-spec =
     data-sum-requires-2
     enum-known-family
     row-diagonal-q-requires
+    enum-known-family-2
+    even-odd-q-requires
     returns-2
     returns-3
-    returns-4)
+    returns-4
+    returns-5)

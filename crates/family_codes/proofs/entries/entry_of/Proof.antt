@@ -2,7 +2,7 @@
 use mathlib.Core.Path.{refl, sym, ap, _∙_}
 use native.Mathlib.Omega.{arith}
 use Rattle.family_codes.specs.Families.{listed, dataDisks, familyHeight}
-use Rattle.family_codes.proofs.FamilyLaws.{row-diagonal-bounds, entryOf-of-P, entryOf-of-Q}
+use Rattle.family_codes.proofs.FamilyLaws.{row-diagonal-bounds, even-odd-bounds, entryOf-of-P, entryOf-of-Q}
 use borrow.Author.Needs.{needs}
 use Rattle.family_codes.proofs.entries.entry_of.Statement.{statement}
 use Rattle.family_codes.proofs.entries.entry_of.Tie as tie
@@ -10,7 +10,7 @@ use Rattle.family_codes.proofs.entries.entry_of.Tie as tie
 identity-row-requires : tie.Need-identity-row-requires
 identity-row-requires c κs =
     let start = c .before in
-    (start .pre .0, start .pre .2, start .pre .1)
+    (start .pre .0, start .pre .3, start .pre .2 (c .if1 .taken))
 
 returns : tie.Need-returns
 returns c =
@@ -30,7 +30,7 @@ liberation-entry-requires : tie.Need-liberation-entry-requires
 liberation-entry-requires c κs =
     let e = c .before .family .given .1 in
     let start = c .before .before .before .before in
-    (sym (ap listed e) ∙ start .pre .0, refl, omega (arith, start .pre .1, ap familyHeight e), omega (arith, start .pre .2, ap dataDisks e))
+    (sym (ap listed e) ∙ start .pre .0, refl, omega (arith, start .pre .1, ap familyHeight e), omega (arith, start .pre .3, ap dataDisks e))
 
 enum-known-family-2 : tie.Need-enum-known-family-2
 enum-known-family-2 c = search needs
@@ -43,7 +43,20 @@ diagonal-entry-requires c κs =
     let b = row-diagonal-bounds _ h in
     let row = ap familyHeight e in
     let disk = ap dataDisks e in
-    (h, omega (arith, b), omega (arith, start .pre .1, row), omega (arith, start .pre .2, disk), omega (arith, start .pre .2, disk))
+    (h, omega (arith, b), omega (arith, start .pre .1, row), omega (arith, start .pre .3, disk), omega (arith, start .pre .3, disk))
+
+enum-known-family-3 : tie.Need-enum-known-family-3
+enum-known-family-3 c = search needs
+
+diagonal-entry-requires-2 : tie.Need-diagonal-entry-requires-2
+diagonal-entry-requires-2 c κs =
+    let e = c .before .family3 .given .1 in
+    let start = c .before .before .before .before in
+    let h = sym (ap listed e) ∙ start .pre .0 in
+    let b = even-odd-bounds _ h in
+    let row = ap familyHeight e in
+    let disk = ap dataDisks e in
+    (h, omega (arith, b), omega (arith, start .pre .1, row), omega (arith, start .pre .3, disk), omega (arith, start .pre .3, disk))
 
 returns-2 : tie.Need-returns-2
 returns-2 c =
@@ -63,6 +76,12 @@ returns-4 c =
     c .diagonal-entry .ensures
     ∙ entryOf-of-Q (a .family) _ (a .parity) (a .row) (a .disk) (c .before .before .before .before .if1 .left) (c .before .before .family2 .given .1)
 
+returns-5 : tie.Need-returns-5
+returns-5 c =
+    let a = c .before .before .before .before .before .args in
+    c .diagonal-entry2 .ensures
+    ∙ entryOf-of-Q (a .family) _ (a .parity) (a .row) (a .disk) (c .before .before .before .before .if1 .left) (c .before .before .family3 .given .1)
+
 pub entry-of-spec : {M : Type 1} → statement M
 entry-of-spec =
     tie.close
@@ -75,6 +94,9 @@ entry-of-spec =
     liberation-entry-requires
     enum-known-family-2
     diagonal-entry-requires
+    enum-known-family-3
+    diagonal-entry-requires-2
     returns-2
     returns-3
-    returns-4)
+    returns-4
+    returns-5)

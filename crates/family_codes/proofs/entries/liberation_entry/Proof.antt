@@ -10,7 +10,7 @@ add-identity-row : tie.Need-add-identity-row
 add-identity-row c = omega (arith, listed-bounds (c .args .family) (c .pre .0))
 
 rem-identity-row : tie.Need-rem-identity-row
-rem-identity-row c = omega arith
+rem-identity-row c = omega (arith, listed-bounds (c .args .family) (c .pre .0))
 
 identity-row-requires : tie.Need-identity-row-requires
 identity-row-requires c κs = (c .pre .0, c .pre .3, mod-is-row (c .args .family) (c .pre .0) _ _ (c .pre .1))

@@ -20,6 +20,9 @@ sub-result : tie.Need-sub-result
 sub-result c =
     omega (arith, row-diagonal-bounds _ (sym (ap listed (c .before .family3 .given .1)) ∙ c .before .before .before .pre))
 
+enum-known-family-4 : tie.Need-enum-known-family-4
+enum-known-family-4 c = c .match .keys4
+
 returns : tie.Need-returns
 returns c = search needs
 
@@ -29,6 +32,9 @@ returns-2 c = search needs
 returns-3 : tie.Need-returns-3
 returns-3 c = sym (ap dataDisks (c .before .family3 .given .1))
 
+returns-4 : tie.Need-returns-4
+returns-4 c = search needs
+
 pub data-disks-of-spec : {M : Type 1} → statement M
 data-disks-of-spec =
     tie.close
@@ -37,6 +43,8 @@ data-disks-of-spec =
     enum-known-family-2
     enum-known-family-3
     sub-result
+    enum-known-family-4
     returns
     returns-2
-    returns-3)
+    returns-3
+    returns-4)

@@ -3,7 +3,7 @@ use mathlib.Core.Path.{sym, ap, _∙_}
 use native.Mathlib.Omega.{arith}
 use borrow.Author.Needs.{needs}
 use Rattle.family_codes.specs.Families.{listed, familyHeight}
-use Rattle.family_codes.proofs.FamilyLaws.{row-diagonal-bounds}
+use Rattle.family_codes.proofs.FamilyLaws.{row-diagonal-bounds, even-odd-bounds}
 use Rattle.family_codes.proofs.listed.height_of.Statement.{statement}
 use Rattle.family_codes.proofs.listed.height_of.Tie as tie
 
@@ -20,6 +20,13 @@ sub-result : tie.Need-sub-result
 sub-result c =
     omega (arith, row-diagonal-bounds _ (sym (ap listed (c .before .family3 .given .1)) ∙ c .before .before .before .pre))
 
+enum-known-family-4 : tie.Need-enum-known-family-4
+enum-known-family-4 c = c .match .keys4
+
+sub-result-2 : tie.Need-sub-result-2
+sub-result-2 c =
+    omega (arith, even-odd-bounds _ (sym (ap listed (c .before .family4 .given .1)) ∙ c .before .before .before .pre))
+
 returns : tie.Need-returns
 returns c = search needs
 
@@ -29,6 +36,9 @@ returns-2 c = search needs
 returns-3 : tie.Need-returns-3
 returns-3 c = sym (ap familyHeight (c .before .family3 .given .1))
 
+returns-4 : tie.Need-returns-4
+returns-4 c = sym (ap familyHeight (c .before .family4 .given .1))
+
 pub height-of-spec : {M : Type 1} → statement M
 height-of-spec =
     tie.close
@@ -37,6 +47,9 @@ height-of-spec =
     enum-known-family-2
     enum-known-family-3
     sub-result
+    enum-known-family-4
+    sub-result-2
     returns
     returns-2
-    returns-3)
+    returns-3
+    returns-4)
