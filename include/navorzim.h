@@ -80,6 +80,7 @@
  *   22      the plan's read count isn't the true one                                   the true count
  *   23      the list of wanted symbols has no entry, or more than r                    0
  *           an entry isn't above the one before it, or isn't on the failed disk        its position in the list, from 0
+ *   25      a copy or add has its target for its source                                the step
  *   31      L is 0 or above 65,536
  *   32      the stripe isn't N * L bytes
  *   33      the data aren't K * L bytes
@@ -91,7 +92,7 @@
  *
  * The order of "the code sheet's" is 1 (under 6 bytes), 3 (first count), 4, 5, 3 (second count), 1, 2, 6. That of "the plan sheet's" is
  * 11 (under 9 bytes), 13 (first count), 14, 15, 16; then in edition 1 13 (steps), 11, 12, and in edition 2 11 (the sheet ends before the
- * step count does), 13 (steps), 23, 11, 12; then 17, 18, 19 of each step in turn; then 20 over the wanted symbols, 21 over the wanted
+ * step count does), 13 (steps), 23, 11, 12; then 17, 18, 25, 19 of each step in turn; then 20 over the wanted symbols, 21 over the wanted
  * symbols, 22.
  *
  *

@@ -214,6 +214,21 @@ def add_unfilled_uses(vectors: Vectors) -> None:
                 add(vectors, kind, plan.with_steps(plan.steps[:number] + [use] + plan.steps[number:]))
 
 
+def add_steps_onto_themselves(vectors: Vectors) -> None:
+    """25: a copy or an add of every place of the array onto itself, before, among and behind the other steps. Lost places of the
+    plan are 25, others 18; a clear of symbol 0 has the source byte 0 and is no such step."""
+    kind = "plan, step onto itself"
+    for plan in (SQUARE_PLAN, direct_plan(second.single_parity(2, 3), 0), chained_plan(second.liberation(3, 2), 1)):
+        for step_kind, place in product((COPY, ADD), range(plan.code.symbols + 1)):
+            for number in sorted({0, 1, len(plan.steps)}):
+                add(vectors, kind, plan.with_steps(plan.steps[:number] + [Step(step_kind, place, place)] + plan.steps[number:]))
+    add_accepted(vectors, kind, SQUARE_PLAN.with_steps([Step(CLEAR, 0, 0)] + SQUARE_PLAN.steps))
+    # The first faulty step decides, also where a later one is onto itself.
+    for step in (Step(3, 0, 0), Step(COPY, 2, 3), Step(ADD, 0, 1), Step(COPY, 0, 1)):
+        add(vectors, kind, SQUARE_PLAN.with_steps([step, Step(COPY, 0, 0)] + SQUARE_PLAN.steps))
+        add(vectors, kind, SQUARE_PLAN.with_steps([Step(ADD, 0, 0), step] + SQUARE_PLAN.steps))
+
+
 # The end
 
 RIGHT, WRONG, UNFILLED = 0, 1, 2
@@ -246,7 +261,7 @@ def add_read_counts(vectors: Vectors) -> None:
     plans += [parity_plans()[0], parity_plans()[7], Plan(SMALLEST, 0, [Step(CLEAR, 0, 0)])]
     plans.append(SQUARE_PLAN.with_steps([Step(COPY, 0, symbol) for symbol in range(2, 8)] + SQUARE_PLAN.steps))
     last_zero = Plan(Code(2, 1, 1, (1, 0)), 1, [Step(CLEAR, 1, 0)])
-    plans += [last_zero, last_zero.with_steps([Step(COPY, 1, 0), Step(ADD, 1, 1)])]
+    plans += [last_zero, last_zero.with_steps([Step(COPY, 1, 0), Step(CLEAR, 1, 0)])]
     for plan in plans:
         true = read_count(plan.code, plan.disk, plan.steps)
         mentions = len([step for step in plan.steps if step.kind != CLEAR])
@@ -373,6 +388,7 @@ def add_plan_vectors(vectors: Vectors) -> None:
     add_changed_steps(vectors)
     add_step_numbers(vectors)
     add_unfilled_uses(vectors)
+    add_steps_onto_themselves(vectors)
     add_ends(vectors)
     add_read_counts(vectors)
     add_plan_pairs(vectors)

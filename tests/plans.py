@@ -146,18 +146,17 @@ def idle_starts(plan: Plan) -> list[list[Step]]:
     """Steps that fill places in vain: what comes behind them fills every place again."""
     wanted, others = plan.wanted, plan.survivors
     copies = [Step(COPY, place, chosen(others)) for place in wanted]
-    to_itself = [step for place in wanted for step in fill(place, [chosen(others), place])]
+    filled_and_cleared = [step for place in wanted for step in fill(place, [chosen(others)]) + [Step(CLEAR, place, 0)]]
     handed_on = [Step(COPY, wanted[0], chosen(others))] + [Step(COPY, place, last) for last, place in zip(wanted, wanted[1:])]
     cleared = [Step(CLEAR, place, 0) for place in shuffled(wanted)]
-    return [cleared, copies, to_itself, handed_on, copies + cleared + copies]
+    return [cleared, copies, filled_and_cleared, handed_on, copies + cleared + copies]
 
 
 def idle_ends(plan: Plan) -> list[list[Step]]:
     """Steps that leave every filled place as it is."""
     wanted, others = plan.wanted, plan.survivors
     one, other = wanted[0], wanted[-1]
-    ends = [[Step(COPY, place, place) for place in wanted]]
-    ends.append([Step(ADD, place, source) for place, source in zip(wanted, others)] * 2)
+    ends = [[Step(ADD, place, source) for place, source in zip(wanted, others)] * 2]
     if one != other:
         swap = [Step(ADD, one, other), Step(ADD, other, one), Step(ADD, one, other)]
         ends += [swap + swap, [Step(ADD, other, one)] * 2]
@@ -172,10 +171,8 @@ def interleaved(plan: Plan) -> Plan:
 
 
 def lengthened(plan: Plan, count: int = STEP_LIMIT) -> Plan:
-    """The plan with as many steps as said, by pairs of adds that cancel and at most one copy of a place onto itself."""
-    steps = list(plan.steps)
-    while len(steps) + 1 < count:
+    """The plan with as many steps as said, by pairs of adds that cancel and at most one clear of a place that is then filled."""
+    steps = [Step(CLEAR, plan.wanted[0], 0)] * ((count - len(plan.steps)) % 2) + list(plan.steps)
+    while len(steps) < count:
         steps += [Step(ADD, chosen(plan.wanted), chosen(plan.survivors))] * 2
-    if len(steps) < count:
-        steps.append(Step(COPY, plan.wanted[0], plan.wanted[0]))
     return plan.with_steps(steps)

@@ -128,13 +128,15 @@ def read_count(code: Code, disk: int, steps: list[Step]) -> int:
 
 
 def step_refusal(code: Code, disk: int, wanted: Sequence[int], steps: list[Step]) -> Optional[Refusal]:
-    """The first faulty step's refusal, in each step 17, 18, 19. A lost place that isn't wanted stays unfilled."""
+    """The first faulty step's refusal, in each step 17, 18, 25, 19. A lost place that isn't wanted stays unfilled."""
     unfilled = set(lost_places(code, disk))
     for number, (kind, target, source) in enumerate(steps):
         if kind > ADD or max(target, source) >= code.symbols or (kind == CLEAR and source != 0):
             return Refusal(17, number)
         if target not in wanted:
             return Refusal(18, number)
+        if (kind, target) in ((COPY, source), (ADD, source)):
+            return Refusal(25, number)
         used = {CLEAR: set(), COPY: {source}, ADD: {target, source}}[kind]
         if used & unfilled:
             return Refusal(19, number)
@@ -253,11 +255,24 @@ def test_liberation() -> None:
 
 def test_limits() -> None:
     sheet = sheet_of(SQUARE)
-    again = steps_of(P2) + [Step(COPY, 1, 1)] * 1020
+    again = [Step(CLEAR, 1, 0)] * 1020 + steps_of(P2)
     assert check(sheet, 0, plan_sheet(SQUARE, 0, again)) == 3
     assert check(sheet, 0, plan_sheet(SQUARE, 0, again + [Step(COPY, 1, 1)])) == Refusal(13)
     assert check(sheet, 0, P2[:8]) == check(sheet, 0, P2[:20]) == Refusal(11)
     assert check(sheet, 0, P2 + b"\0") == Refusal(12)
+
+
+def test_steps_onto_themselves() -> None:
+    """25 is for copies and adds of wanted places: after 17 and 18, before 19. A clear of symbol 0 is none."""
+    sheet, steps = sheet_of(SQUARE), steps_of(P2)
+    for kind, place in [(COPY, 0), (COPY, 1), (ADD, 0), (ADD, 1)]:
+        assert check(sheet, 0, plan_sheet(SQUARE, 0, [Step(kind, place, place)] + steps)) == Refusal(25, 0)
+        assert check(sheet, 0, plan_sheet(SQUARE, 0, steps + [Step(kind, place, place)])) == Refusal(25, 4)
+        assert check(sheet, 1, plan_sheet(SQUARE, 1, [Step(kind, place, place)])) == Refusal(18, 0)
+        assert check(sheet, 0, plan_sheet(SQUARE, 0, [Step(kind, 1, 1)], listed=[0])) == Refusal(18, 0)
+    assert check(sheet, 0, plan_sheet(SQUARE, 0, [Step(3, 0, 0)])) == check(sheet, 0, plan_sheet(SQUARE, 0, [Step(COPY, 8, 8)])) == Refusal(17, 0)
+    assert check(sheet, 0, plan_sheet(SQUARE, 0, [Step(CLEAR, 0, 0)] + steps)) == 3
+    assert check(sheet, 0, plan_sheet(SQUARE, 0, [Step(ADD, 0, 1), Step(COPY, 0, 0)] + steps)) == Refusal(19, 0)
 
 
 def test_trials() -> None:
@@ -304,13 +319,14 @@ def test_edition_2() -> None:
     assert check(sheet, 0, ROW_1[:8] + b"\2\1\4" + step * 1025) == Refusal(13)
     assert check(sheet, 0, ROW_1[:8] + b"\2\0\4" + step) == Refusal(23, 0)
     assert check(sheet, 0, changed(ROW_1, 5, 1)) == check(sheet, 1, ROW_1) == Refusal(16)
-    assert check(sheet, 0, ROW_1[:9] + b"\0\4" + ROW_1[11:] + bytes([COPY, 1, 1]) * 1022) == 2
+    assert check(sheet, 0, ROW_1[:9] + b"\0\4" + bytes([CLEAR, 1, 0]) * 1022 + ROW_1[11:]) == 2
 
 
 if __name__ == "__main__":
     test_worked_cases()
     test_liberation()
     test_limits()
+    test_steps_onto_themselves()
     test_trials()
     test_lists()
     test_edition_2()

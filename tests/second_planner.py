@@ -268,13 +268,14 @@ def test_plans() -> None:
     steps = steps_of(P2)
     assert judge_plan(SQUARE_SHEET, 0, P2, 3) is None
     assert judge_plan(sheet_of(P9), 0, plan_sheet(P9, 0, [Step(CLEAR, 0, 0)]), 0) is None
-    longest = steps + [Step(COPY, 0, 0)] * 8
+    longest = [Step(CLEAR, 0, 0)] * 8 + steps
     assert judge_plan(SQUARE_SHEET, 0, plan_sheet(SQUARE, 0, longest), 3) is None
     wrong = [
         ("wrong source", changed(P2, 20, 6), 3),
         ("read count of the answer", P2, 4),
         ("read count of the sheet", changed(P2, 6, 4), 4),
-        ("too many steps", plan_sheet(SQUARE, 0, longest + [Step(COPY, 0, 0)]), 3),
+        ("too many steps", plan_sheet(SQUARE, 0, [Step(CLEAR, 0, 0)] + longest), 3),
+        ("a step onto itself", plan_sheet(SQUARE, 0, steps + [Step(COPY, 0, 0)]), 3),
         ("no steps", plan_sheet(SQUARE, 0, []), 0),
         ("another disk", changed(P2, 5, 1), 3),
         ("a place taken as zero", plan_sheet(SQUARE, 0, [step._replace(kind=ADD) for step in steps]), 3),
@@ -298,7 +299,7 @@ def test_plans_with_lists() -> None:
         ("more than the list", plan_sheet(SQUARE, 0, steps, listed=[0, 1]), 3, [1]),
         ("less than the list", ROW_1, 2, [0, 1]),
         ("another list", ROW_1, 2, [0]),
-        ("too many steps", plan_sheet(SQUARE, 0, steps[2:] + [Step(COPY, 1, 1)] * 11, listed=[1]), 2, [1]),
+        ("too many steps", plan_sheet(SQUARE, 0, [Step(CLEAR, 1, 0)] * 11 + steps[2:], listed=[1]), 2, [1]),
     ]
     for why, plan, reads, listed in wrong:
         assert judge_plan(SQUARE_SHEET, 0, plan, reads, listed) is not None, why

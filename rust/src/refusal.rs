@@ -50,6 +50,11 @@ pub enum Refusal {
         /// The step's number.
         step: u64,
     },
+    /// Refusal 25 is given when a copy's or an add's source is its target. Its place is the step.
+    StepOntoItself {
+        /// The step's number.
+        step: u64,
+    },
     /// Refusal 19 is given when a step adds to a place, or takes from a lost place, that no earlier step has filled. Its place is
     /// the step.
     UnfilledPlaceUsed {
@@ -129,6 +134,7 @@ impl Refusal {
             17 => MalformedStep { step: place },
             18 => TargetNotWanted { step: place },
             19 => UnfilledPlaceUsed { step: place },
+            25 => StepOntoItself { step: place },
             20 => NeverFilled { row: place },
             21 => EndsWrong { row: place },
             22 => WrongReadCount { true_count: place },
@@ -165,6 +171,7 @@ impl Refusal {
             MalformedStep { .. } => 17,
             TargetNotWanted { .. } => 18,
             UnfilledPlaceUsed { .. } => 19,
+            StepOntoItself { .. } => 25,
             NeverFilled { .. } => 20,
             EndsWrong { .. } => 21,
             WrongReadCount { .. } => 22,
@@ -186,7 +193,7 @@ impl Refusal {
         use Refusal::*;
         match *self {
             StrayBit { row, bit } => row * 64 + bit,
-            MalformedStep { step } | TargetNotWanted { step } | UnfilledPlaceUsed { step } => step,
+            MalformedStep { step } | TargetNotWanted { step } | StepOntoItself { step } | UnfilledPlaceUsed { step } => step,
             NeverFilled { row } | EndsWrong { row } => row,
             WrongReadCount { true_count } => true_count,
             BadWantedList { position } => position,
@@ -209,6 +216,7 @@ impl fmt::Display for Refusal {
             StrayBit { row, bit } => write!(f, "row {row} of the code has bit {bit} set, which is not below K"),
             MalformedStep { step } => write!(f, "step {step} is malformed"),
             TargetNotWanted { step } => write!(f, "the target of step {step} isn't a wanted symbol of the failed disk"),
+            StepOntoItself { step } => write!(f, "step {step} copies or adds a symbol onto itself"),
             UnfilledPlaceUsed { step } => write!(f, "step {step} uses a lost place that no earlier step has filled"),
             NeverFilled { row } => write!(f, "row {row} of the failed disk is never filled"),
             EndsWrong { row } => write!(f, "row {row} of the failed disk ends wrong under this code"),
@@ -254,6 +262,7 @@ impl Refusal {
             SheetBufferTooShort => "the buffer is shorter than the code sheet",
             NoSuchSymbol => "the array has no such symbol",
             StrayBit { .. } | MalformedStep { .. } | TargetNotWanted { .. } | UnfilledPlaceUsed { .. } => "",
+            StepOntoItself { .. } => "",
             NeverFilled { .. } | EndsWrong { .. } | WrongReadCount { .. } | BadWantedList { .. } | Unlisted { .. } => {
                 ""
             }
@@ -293,7 +302,7 @@ mod tests {
     fn every_number_of_the_table_has_its_refusal() {
         let numbers = of_the_header();
         assert_eq!(numbers, of_the_rules());
-        assert_eq!((numbers.len(), numbers.iter().max()), (28, Some(&38)));
+        assert_eq!((numbers.len(), numbers.iter().max()), (29, Some(&38)));
         assert_eq!(Refusal::given(0, 0), None);
         let mut sentences = HashSet::new();
         for number in numbers {
@@ -318,7 +327,7 @@ mod tests {
 
     #[test]
     fn places_are_kept() {
-        for number in [6, 17, 18, 19, 20, 21, 22, 23] {
+        for number in [6, 17, 18, 19, 20, 21, 22, 23, 25] {
             for place in [0, 1, 63, 64, 1023, 4095] {
                 let refusal = Refusal::given(number, place).expect("a refusal");
                 assert_eq!((refusal.number(), refusal.place()), (number, place));

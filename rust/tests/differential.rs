@@ -185,7 +185,7 @@ fn encoding() {
 #[test]
 fn checking() {
     let mut random = Random::new(3);
-    let (mut accepted, mut refused) = ([0; 3], [0; 24]);
+    let (mut accepted, mut refused) = ([0; 3], [0; 26]);
     for _ in 0..calls(120_000) {
         let (code, sheet) = sheet(&mut random);
         let disk = random.below(code.disks);
@@ -204,7 +204,8 @@ fn checking() {
         accepted[1], accepted[2]
     );
     assert!(accepted[1] > 5_000 && accepted[2] > 5_000, "only {accepted:?} plans were accepted");
-    assert!((11..24).all(|number| number == 14 || refused[number] > 50), "{refused:?}");
+    let given = |number: usize| matches!(number, 14 | 24) || refused[number] > 50;
+    assert!((11..26).all(given), "{refused:?}");
 }
 
 /// Planning's answer, if nothing was refused.

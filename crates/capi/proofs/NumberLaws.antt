@@ -26,6 +26,7 @@ use Rattle.refusals.specs.declared.Refusal.the-variants.{
   EndsWrong,
   WrongReadCount,
   BadWantedList,
+  StepOntoItself,
   SymbolLength,
   StripeLength,
   DataLength,
@@ -58,6 +59,7 @@ not-numbered-0 (NeverFilled row) = refl
 not-numbered-0 (EndsWrong row) = refl
 not-numbered-0 (WrongReadCount count) = refl
 not-numbered-0 (BadWantedList position) = refl
+not-numbered-0 (StepOntoItself step) = refl
 not-numbered-0 SymbolLength = refl
 not-numbered-0 StripeLength = refl
 not-numbered-0 DataLength = refl

@@ -34,6 +34,10 @@ abbrev pub squarePlan : ℕ → ℕ → ℕ → ℕ → List ℕ
 squarePlan reads kind first last =
     6 ∷ 1 ∷ 4 ∷ 2 ∷ 4 ∷ 0 ∷ reads ∷ 4 ∷ 0 ∷ kind ∷ first ∷ 2 ∷ 2 ∷ 0 ∷ 4 ∷ 1 ∷ 1 ∷ 2 ∷ 2 ∷ 1 ∷ last ∷ []
 
+-- A plan of disk 0 of the square code with one step
+abbrev pub oneStep : ℕ → ℕ → ℕ → List ℕ
+oneStep kind place source = 6 ∷ 1 ∷ 4 ∷ 2 ∷ 4 ∷ 0 ∷ 0 ∷ 1 ∷ 0 ∷ kind ∷ place ∷ source ∷ []
+
 -- An edition 2 plan of disk 0 of the square code, from its read count on
 abbrev pub wantedPlan : ℕ → List ℕ → List ℕ
 wantedPlan reads rest = 6 ∷ 2 ∷ 4 ∷ 2 ∷ 4 ∷ 0 ∷ reads ∷ rest
@@ -192,5 +196,19 @@ wantedCases =
     ∷ plans-wanted half 0 (0 ∷ [])
     ∷ []
 
+-- Document 02, §6: steps onto themselves
+abbrev pub ontoItselfCases : List Case
+ontoItselfCases =
+    -- P2 with last source 01, which is its target
+    answers square 0 (squarePlan 3 1 0 1) (Refuses (25 at 3))
+    -- a copy and an add of an unfilled place
+    ∷ answers square 0 (oneStep 1 0 0) (Refuses (25 at 0))
+    ∷ answers square 0 (oneStep 2 1 1) (Refuses (25 at 0))
+    -- a symbol that survives is no target
+    ∷ answers square 0 (oneStep 1 2 2) (Refuses (18 at 0))
+    -- a clear of symbol 0, source byte 0, is no such step: row 1 is never filled
+    ∷ answers square 0 (oneStep 0 0 0) (Refuses (20 at 1))
+    ∷ []
+
 unfoldable pub table : List Case
-table = rulesCases ++ wantedCases
+table = rulesCases ++ wantedCases ++ ontoItselfCases

@@ -1,7 +1,7 @@
--- Laws of what steps read: of one plan after the other, and of the steps that fill a target from a subset. Assumes nothing.
+-- Laws of what steps read: of one plan after the other, of steps from known places to others, and of the steps that fill a target from a subset. Assumes nothing.
 use mathlib.Core.Path.{_≡_, refl, sym, ap, _∙_}
-use mathlib.Core.Bool.{Bool, true, false, cond, _&&_, _||_, or-assoc}
-use mathlib.Core.List.{List, [], _∷_, _++_}
+use mathlib.Core.Bool.{Bool, true, false, cond, _&&_, _||_, or-assoc, true≢false}
+use mathlib.Core.List.{List, [], _∷_, _++_, List·Memᴰ·head, List·Memᴰ·tail}
 use Prim.Native.Nat.{ℕ, zero, suc, _+_, _^_, _≤_, _<_}
 use native.Mathlib.Omega.{arith}
 use native.Mathlib.Decide.{decLt}
@@ -9,10 +9,10 @@ use lib.Dec.{eqb, leb, leb·zero}
 use borrow.Author.Tests.{le-leb, lt-leb, leb-true, eqb-true, eqb-false}
 use Rattle.bits.specs.BitSets.{has}
 use Rattle.gf2.specs.InnerSubsetPlans.{addAll, fillFrom}
-use Rattle.gf2.specs.Plans.{reads, readByAny}
+use Rattle.gf2.specs.Plans.{target, reads, readByAny, NoneOntoItself, UsesOnlyKnown, next}
 use Rattle.gf2.specs.declared.Step.{Step}
 use Rattle.gf2.specs.declared.Step.the-variants.{Copy, Add}
-use Rattle.bits.proofs.Booleans.{bool-cases}
+use Rattle.bits.proofs.Booleans.{bool-cases, or-true-if-left, or-true-if-right}
 use Rattle.bits.proofs.SetLaws.{has-above}
 
 -- Steps and others behind them read what either read
@@ -21,6 +21,18 @@ unfolding readByAny
 readByAny-append s [] ys = refl
 readByAny-append s (p ∷ xs) ys =
     ap (λ (c : Bool). reads s p || c) (readByAny-append s xs ys) ∙ sym (or-assoc (reads s p) (readByAny s xs) (readByAny s ys))
+
+-- Where all that is written is lost and all that is read is known, no step is onto itself
+pub none-onto-itself : {writable filled : ℕ → Bool} {steps : List Step} → UsesOnlyKnown writable filled steps → (known : ℕ → Bool)
+    → ((s : ℕ) → writable s ≡ true → known s ≡ false) → ((s : ℕ) → readByAny s steps ≡ true → known s ≡ true) → NoneOntoItself steps
+unfolding readByAny
+none-onto-itself (next {p = first} {ps = rest} may-write is-ready uses) known writes-lost reads-known p (List·Memᴰ·head same) =
+    rw same
+    (bool-cases (λ c. reads (target first) first ≡ c → c ≡ false)
+    (λ own. absurd (true≢false (sym (reads-known (target first) (or-true-if-left (reads (target first) first) _ own)) ∙ writes-lost (target first) may-write)))
+    (λ apart. refl) (reads (target first) first) refl)
+none-onto-itself (next {p = first} {ps = rest} may-write is-ready uses) known writes-lost reads-known p (List·Memᴰ·tail m) =
+    none-onto-itself uses known writes-lost (λ s read. reads-known s (or-true-if-right (reads s first) (readByAny s rest) read)) p m
 
 -- ------------------------------------------------------------------
 -- The steps for one target

@@ -102,7 +102,8 @@ module _ (count : ℕ) (wanted : ℕ → Bool) where
   unfolding stepsVerdict
   each-formed-if-fine known number (first ∷ steps) e s (List·Memᴰ·head same) =
       let here = firstOf (stepFaults count wanted known number first) in
-      rw same (fine-means-none-holds Fine (stepFaults count wanted known number first) (both-fine here _ e .0) .1 .0)
+      let none = fine-means-none-holds Fine (stepFaults count wanted known number first) (both-fine here _ e .0) .1 in
+      rw same (record { not-malformed = none .0; not-onto-itself = none .1 .1 .0 })
   each-formed-if-fine known number (first ∷ steps) e s (List·Memᴰ·tail m) =
       let here = firstOf (stepFaults count wanted known number first) in
       each-formed-if-fine (extend known (first .target)) (suc number) steps (both-fine here _ e .1) s m
@@ -115,7 +116,7 @@ module _ (count : ℕ) (wanted : ℕ → Bool) where
   usesOnlyKnown-if-fine known number (s ∷ steps) e =
       let both = both-fine (firstOf (stepFaults count wanted known number s)) _ e in
       let none = fine-means-none-holds Fine (stepFaults count wanted known number s) (both .0) .1 in
-      next (ap wanted (target-stepOf s) ∙ not-false _ (none .1 .0)) (not-false _ (none .1 .1 .0))
+      next (ap wanted (target-stepOf s) ∙ not-false _ (none .1 .0)) (not-false _ (none .1 .1 .1 .0))
       (subst (λ (t : ℕ). UsesOnlyKnown wanted (extend known t) (map stepOf steps)) (sym (target-stepOf s))
       (usesOnlyKnown-if-fine (extend known (s .target)) (suc number) steps (both .1)))
 
@@ -126,8 +127,9 @@ module _ (count : ℕ) (wanted : ℕ → Bool) where
   steps-fine-if-usesOnlyKnown known number [] formed uses = refl
   steps-fine-if-usesOnlyKnown known number (s ∷ steps) formed (next writes is-ready rest) =
       let target-wanted : not (wanted (s .target)) ≡ false = ap not (ap wanted (sym (target-stepOf s)) ∙ writes) in
+      let here = formed s (List·Memᴰ·head refl) in
       fine-if-both
-      (none-holds-means-fine (stepFaults count wanted known number s) (formed s (List·Memᴰ·head refl), (target-wanted, (ap not is-ready, tt))))
+      (none-holds-means-fine (stepFaults count wanted known number s) (here .not-malformed, (target-wanted, (here .not-onto-itself, (ap not is-ready, tt)))))
       (steps-fine-if-usesOnlyKnown (extend known (s .target)) (suc number) steps (λ q m. formed q (List·Memᴰ·tail m))
       (subst (λ (t : ℕ). UsesOnlyKnown wanted (extend known t) (map stepOf steps)) (target-stepOf s) rest))
 

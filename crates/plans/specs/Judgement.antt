@@ -1,5 +1,5 @@
--- The judgement of a plan with any number of steps (document 01, "When the desk says no" and "How tight the answers are"; document 02, §3):
--- 13 for the first count, 14, 15, 16, 23; then steps in order, in each 17, 18, 19; then 20 over all wanted symbols, 21 over all of them, 22.
+-- The judgement of a plan with any number of steps (document 01, "When the desk says no" and "How tight the answers are"; document 02, §3 and §6):
+-- 13 for the first count, 14, 15, 16, 23; then steps in order, in each 17, 18, 25, 19; then 20 over all wanted symbols, 21 over all of them, 22.
 use mathlib.Core.Path.{_≡_}
 use mathlib.Core.Bool.{Bool, true, false, cond, not, _&&_, _||_}
 use mathlib.Core.List.{List, [], _∷_, _++_, map, List·Memᴰ}
@@ -68,15 +68,25 @@ abbrev pub malformed : ℕ → SheetStep → Bool
 malformed count s =
     ltb 2 (s .kind) || leb count (s .target) || leb count (s .source) || (eqb (s .kind) 0 && not (eqb (s .source) 0))
 
+-- 25: a copy or add whose source is its target; a clear has no source
+abbrev pub ontoItself : SheetStep → Bool
+ontoItself s = not (eqb (s .kind) 0) && eqb (s .source) (s .target)
+
+-- A step is well formed (demand 2, with document 02, §6): neither 17 nor 25 holds of it
+pub record WellFormed (count : ℕ) (s : SheetStep) : Type 0 where
+  pub not-malformed : malformed count s ≡ false
+  pub not-onto-itself : ontoItself s ≡ false
+
 -- Each step of a list is well formed
 abbrev pub EachFormed : ℕ → List SheetStep → Type 0
-EachFormed count steps = (s : SheetStep) → List·Memᴰ s steps → malformed count s ≡ false
+EachFormed count steps = (s : SheetStep) → List·Memᴰ s steps → WellFormed count s
 
--- In each step 17, 18 (a target that isn't wanted), 19 (an unfilled place is used)
+-- In each step 17, 18 (a target that isn't wanted), 25, 19 (an unfilled place is used)
 abbrev pub stepFaults : ℕ → (ℕ → Bool) → (ℕ → Bool) → ℕ → SheetStep → List Fault
 stepFaults count wanted known number s =
     (malformed count s gets 17 at number)
     ∷ (not (wanted (s .target)) gets 18 at number)
+    ∷ (ontoItself s gets 25 at number)
     ∷ (not (ready (stepOf s) known) gets 19 at number)
     ∷ []
 

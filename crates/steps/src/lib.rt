@@ -5,7 +5,7 @@ ghost use Rattle.bits.specs.BitSets.{has};
 ghost use Rattle.bits.specs.Numerals.{setWidth, numeral, numerals};
 ghost use Rattle.gf2.specs.Plans.{target, ready, NamesBelow};
 ghost use Rattle.plan_sheets.specs.PlanSheets.{stepAt, sheetSteps};
-ghost use Rattle.plans.specs.Judgement.{malformed, stepReading};
+ghost use Rattle.plans.specs.Judgement.{malformed, ontoItself, stepReading};
 ghost use Rattle.plans.specs.InnerProgress.{sourceOf, valueOf, asStep, reached, Progressed};
 ghost use Rattle.refusals.specs.Orders.{outcome, outcomeOf};
 use bits::BitSet;
@@ -42,6 +42,16 @@ fn malformed(step: SheetStep, symbols: usize) -> bool
     kind == 0 && source != 0
 }
 
+// 25: a copy or add whose source is its target; a clear has no source.
+fn onto_itself(step: SheetStep) -> bool
+    ensures { λ r. ⌜ r ≡ ontoItself step ⌝ }
+{
+    let kind = step.kind;
+    let target = step.target;
+    let source = step.source;
+    kind != 0 && source == target
+}
+
 // Whether every place that the step uses is known.
 fn is_ready(step: Step, known: BitSet) -> bool
     requires { ⌜ NamesBelow setWidth step ⌝ }
@@ -54,7 +64,7 @@ fn is_ready(step: Step, known: BitSet) -> bool
     }
 }
 
-// In each step 17, 18, 19.
+// In each step 17, 18, 25, 19.
 fn judge_step(
     sheet_step: SheetStep,
     number: usize,
@@ -70,6 +80,9 @@ fn judge_step(
     }
     if !has(wanted, sheet_step.target) {
         return StepReading::Refused(Refusal::TargetNotWanted { step: number });
+    }
+    if onto_itself(sheet_step) {
+        return StepReading::Refused(Refusal::StepOntoItself { step: number });
     }
     let step = decoded(sheet_step);
     if !is_ready(step, known) {

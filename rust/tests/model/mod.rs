@@ -230,7 +230,7 @@ pub fn read_plan(code: &Code, disk: usize, plan: &[u8]) -> Result<Plan, No> {
     }
 }
 
-/// What the steps make of the rows, and the survivors that they read: 17, 18, 19. Lost places are missing until a step fills them.
+/// What the steps make of the rows, and the survivors that they read: 17, 18, 25, 19. Lost places are missing until a step fills them.
 fn run(code: &Code, disk: usize, plan: &Plan) -> Result<(Vec<Option<Row>>, HashSet<usize>), No> {
     let lost = code.strip(disk);
     let row = |s: usize| (!lost.contains(&s)).then(|| code.rows[s].clone());
@@ -244,6 +244,9 @@ fn run(code: &Code, disk: usize, plan: &Plan) -> Result<(Vec<Option<Row>>, HashS
         }
         if !plan.wanted.contains(&target) {
             return Err((18, place));
+        }
+        if kind != 0 && target == source {
+            return Err((25, place));
         }
         let result = match kind {
             0 => Some(vec![false; code.data]),

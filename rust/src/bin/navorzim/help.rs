@@ -99,7 +99,7 @@ Reads the code sheet CODE and the plan sheet PLAN, and judges whether the plan b
 DISK, or the symbols that it lists, back for every stripe of this code; says how many surviving
 symbols it reads, and which rows of the disk it brings back if it lists some.
 
-Refused: the code sheet (1 to 6), 7 (no such disk), the plan (11 to 23).
+Refused: the code sheet (1 to 6), 7 (no such disk), the plan (11 to 25).
 
 example: navorzim check code.sheet 0 plan.sheet
 ";
@@ -118,7 +118,7 @@ A wrong L, disk or code is refused only where the lengths or the plan don't fit 
 do, good symbols are overwritten: the answer says which L, disk and code were used, so keep
 STRIPES until it has been read.
 
-Refused: the code sheet (1 to 6), 7 (no such disk), the plan (11 to 23), 31 (L is 1 to
+Refused: the code sheet (1 to 6), 7 (no such disk), the plan (11 to 25), 31 (L is 1 to
 65,536), 32 (STRIPES isn't whole stripes). STRIPES is then as it was.
 
 example: navorzim rebuild code.sheet 0 plan.sheet --symbol 64 stripes.bin -o rebuilt.bin
@@ -152,7 +152,7 @@ Reads the code sheet CODE and draws it: disks as columns, rows as cells.
 Colours appear on a terminal, unless NO_COLOR is set; COLUMNS sets the width (else the
 terminal's own, or 80).
 
-Refused: the code sheet (1 to 6), 7 (no such disk), the plan (11 to 23), the list (23).
+Refused: the code sheet (1 to 6), 7 (no such disk), the plan (11 to 25), the list (23).
 
 example: navorzim show code.sheet --disk 0 --svg plan.svg
 example: navorzim show code.sheet --disk 0 --want 2

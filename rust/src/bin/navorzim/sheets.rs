@@ -211,6 +211,7 @@ impl Plan {
             Refusal::PlanOfAnotherDisk => format!("the plan has {}, asked is {disk}", byte(5)),
             Refusal::MalformedStep { step }
             | Refusal::TargetNotWanted { step }
+            | Refusal::StepOntoItself { step }
             | Refusal::UnfilledPlaceUsed { step } => self.step_detail(step),
             Refusal::PlanSheetEdition => format!("it is {}", byte(1)),
             Refusal::WrongReadCount { .. } => format!("the plan says {}", byte(6)),
