@@ -76,7 +76,8 @@
  *   18      a step's target isn't a wanted symbol of the failed disk                   the step
  *   19      a step uses a lost place that no earlier step has filled                   the step
  *   20      a wanted symbol is never filled                                            its row of the disk, the lowest
- *   21      a wanted symbol ends wrong                                                 its row of the disk, the lowest
+ *   21      a wanted symbol ends wrong                                                 its row of the disk, the lowest, times 64,
+ *                                                                                      plus the lowest data symbol that is off
  *   22      the plan's read count isn't the true one                                   the true count
  *   23      the list of wanted symbols has no entry, or more than r                    0
  *           an entry isn't above the one before it, or isn't on the failed disk        its position in the list, from 0

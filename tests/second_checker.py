@@ -145,12 +145,23 @@ def step_refusal(code: Code, disk: int, wanted: Sequence[int], steps: list[Step]
 
 
 def end_refusal(code: Code, wanted: Sequence[int], steps: list[Step]) -> Optional[Refusal]:
-    """20 over all wanted symbols, then 21 over all of them. The place is a row of the disk."""
+    """20 over all wanted symbols, then 21 over all of them. The place is a row of the disk, for 21 times 64 plus a data symbol."""
     unfilled = set(wanted) - {step.target for step in steps}
     if unfilled:
         return Refusal(20, min(unfilled) % code.height)
     wrong = wrong_symbols(code, wanted, steps)
-    return Refusal(21, min(wrong) % code.height) if wrong else None
+    if not wrong:
+        return None
+    return Refusal(21, min(wrong) % code.height * 64 + first_off(code, min(wrong), steps))
+
+
+def first_off(code: Code, symbol: int, steps: list[Step]) -> int:
+    """The lowest data symbol whose own stripe, FF bytes there and zero elsewhere, comes out wrong in a symbol that ends wrong."""
+    for data_symbol in range(code.data_symbols):
+        stripe = encoding(code, 1, bytes(data_symbol) + b"\xff" + bytes(code.data_symbols - 1 - data_symbol))
+        if run(code, 1, steps, with_symbols(1, [symbol], b"\x5a", stripe))[symbol] != stripe[symbol]:
+            return data_symbol
+    raise AssertionError("a symbol that ends wrong does so for a single data symbol")
 
 
 # Trying a plan
@@ -231,7 +242,7 @@ def test_worked_cases() -> None:
     assert check(sheet, 0, P2) == 3
     assert run(SQUARE, 1, steps_of(P2), b"\xff\xff" + stripe[2:]) == stripe
     assert check(sheet, 0, changed(P2, 6, 4)) == Refusal(22, 3)
-    assert check(sheet, 0, changed(P2, 20, 6)) == Refusal(21, 1)
+    assert check(sheet, 0, changed(P2, 20, 6)) == Refusal(21, 64)
     assert check(sheet, 0, changed(P2, 9, 2)) == Refusal(19, 0)
     assert check(sheet, 0, changed(P2, 10, 2)) == Refusal(18, 0)
     assert all(check(sheet, 0, plan_sheet(SQUARE, 0, [], reads)) == Refusal(20, 0) for reads in (0, 3))
@@ -249,7 +260,7 @@ def test_liberation() -> None:
     assert check(sheet_of(code), 0, plan_sheet(code, 0, from_p)) == 25
     assert check(sheet_of(code), 0, plan_sheet(code, 0, from_both)) == 20
     assert check(sheet_of(code), 0, plan_sheet(code, 0, from_both, 25)) == Refusal(22, 20)
-    assert check(sheet_of(code), 0, plan_sheet(code, 0, from_p[:-1])) == Refusal(21, 4)
+    assert check(sheet_of(code), 0, plan_sheet(code, 0, from_p[:-1])) == Refusal(21, 4 * 64 + 4)
     assert check(sheet_of(code), 0, plan_sheet(code, 0, from_p[:-5])) == Refusal(20, 4)
 
 
@@ -280,7 +291,7 @@ def test_trials() -> None:
     steps = steps_of(P2)
     cached = plan_sheet(SQUARE, 0, [Step(COPY, 0, 6), Step(ADD, 0, 3)] + steps[2:])
     assert check(sheet_of(SQUARE), 0, cached) == 4
-    assert check(sheet_of(row_diagonal(3)), 0, cached) == Refusal(21, 0)
+    assert check(sheet_of(row_diagonal(3)), 0, cached) == Refusal(21, 1)
     wide = Code(4, 2, 64, tuple(row << 60 for row in SQUARE.rows))
     assert wrong_symbols(wide, [0, 1], steps) == set()
     assert wrong_symbols(wide, [0, 1], steps[:3]) == {1} and wrong_symbols(wide, [0, 1], steps[1:]) == {0}
@@ -302,7 +313,7 @@ def test_lists() -> None:
     assert check(sheet, 1, plan_sheet(code, 1, [Step(COPY, 3, 4)], listed=[3])) == Refusal(19, 0)
     assert check(sheet, 1, plan_sheet(code, 1, outer + [Step(ADD, 5, 3), Step(ADD, 5, 3)], listed=[3, 5])) == 4
     assert check(sheet, 1, plan_sheet(code, 1, rows[0], listed=[3, 5])) == Refusal(20, 2)
-    assert check(sheet, 1, plan_sheet(code, 1, outer[:3], listed=[3, 5])) == Refusal(21, 2)
+    assert check(sheet, 1, plan_sheet(code, 1, outer[:3], listed=[3, 5])) == Refusal(21, 2 * 64 + 2)
     assert check(sheet, 1, plan_sheet(code, 1, outer, 3, [3, 5])) == Refusal(22, 4)
     half = Code(2, 2, 2, (1, 2, 0, 2))
     assert check(sheet_of(half), 0, plan_sheet(half, 0, [Step(COPY, 1, 3)], listed=[1])) == 1

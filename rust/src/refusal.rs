@@ -66,11 +66,13 @@ pub enum Refusal {
         /// The row of the disk.
         row: u64,
     },
-    /// Refusal 21 is given when a wanted symbol does not come out right under this code. Its place is the lowest such row of the
-    /// disk.
+    /// Refusal 21 is given when a wanted symbol does not come out right under this code. Its place is 64 times the lowest such row
+    /// of the disk, plus the lowest data symbol that is off: one that the steps leave out of it, or bring into it.
     EndsWrong {
         /// The row of the disk.
         row: u64,
+        /// The data symbol that is off.
+        data_symbol: u64,
     },
     /// Refusal 22 is given when the plan sheet's read count isn't the number of distinct surviving symbols that its steps read. Its
     /// place is the true count.
@@ -136,7 +138,7 @@ impl Refusal {
             19 => UnfilledPlaceUsed { step: place },
             25 => StepOntoItself { step: place },
             20 => NeverFilled { row: place },
-            21 => EndsWrong { row: place },
+            21 => EndsWrong { row: place / 64, data_symbol: place % 64 },
             22 => WrongReadCount { true_count: place },
             23 => BadWantedList { position: place },
             31 => SymbolLength,
@@ -194,7 +196,8 @@ impl Refusal {
         match *self {
             StrayBit { row, bit } => row * 64 + bit,
             MalformedStep { step } | TargetNotWanted { step } | StepOntoItself { step } | UnfilledPlaceUsed { step } => step,
-            NeverFilled { row } | EndsWrong { row } => row,
+            NeverFilled { row } => row,
+            EndsWrong { row, data_symbol } => row * 64 + data_symbol,
             WrongReadCount { true_count } => true_count,
             BadWantedList { position } => position,
             Unlisted { place, .. } => place,
@@ -219,7 +222,9 @@ impl fmt::Display for Refusal {
             StepOntoItself { step } => write!(f, "step {step} copies or adds a symbol onto itself"),
             UnfilledPlaceUsed { step } => write!(f, "step {step} uses a lost place that no earlier step has filled"),
             NeverFilled { row } => write!(f, "row {row} of the failed disk is never filled"),
-            EndsWrong { row } => write!(f, "row {row} of the failed disk ends wrong under this code"),
+            EndsWrong { row, data_symbol } => {
+                write!(f, "row {row} of the failed disk ends wrong: data symbol {data_symbol} is off")
+            }
             WrongReadCount { true_count } => write!(f, "the plan's read count is wrong: it reads {true_count} symbols"),
             BadWantedList { position: 0 } => write!(
                 f,

@@ -91,6 +91,33 @@ fn old_row_diagonal_sheets_are_known_and_stay_good() {
 }
 
 #[test]
+fn what_is_off_is_shown() {
+    let folder = Folder::square();
+    folder.put("plan", &p2_with(20, 6));
+    let ran = folder.run("show code --disk 0 --plan plan --svg drawing");
+    assert_eq!(ran.status, 1);
+    assert_eq!(ran.err, "navorzim: refused 21 at 64: row 1 of the failed disk ends wrong: data symbol 0 is off (plan)\n");
+    for piece in [
+        "The plan is refused: row 1 ends wrong.",
+        "Symbol 1 is d1, and the steps make d0 + d2 + d3 of it: d0 is off, and d1 d2 d3.",
+        "! lost, ends wrong: 1",
+        "× lost: 1",
+        "1: 0 += 4",
+    ] {
+        assert!(ran.out.contains(piece), "{piece}: {}", ran.out);
+    }
+    let picture = String::from_utf8(folder.get("drawing")).expect("text");
+    assert!(picture.contains("<title>1 = d1 (lost, ends wrong)</title>"), "{picture}");
+    texts_fit(&picture, "a plan that ends wrong");
+    balanced(&picture);
+    // A row that comes out as zero, and one that should be zero.
+    folder.put("zero", &sheet(2, 1, 1, &[1, 0]));
+    folder.put("plan", &[6, 1, 2, 1, 1, 0, 0, 1, 0, 0, 0, 0]);
+    let ran = folder.fails("show zero --disk 0 --plan plan", 1);
+    assert!(ran.out.contains("Symbol 0 is d0, and the steps make zero of it: d0 is off."), "{}", ran.out);
+}
+
+#[test]
 fn data_is_encoded() {
     let folder = Folder::square();
     folder.done("encode code --symbol 1 data -o out");
@@ -332,7 +359,6 @@ fn worked_plans_get_their_answers() {
     assert_eq!(folder.done("check code 0 plan"), "accepted, reads 3 symbols\n");
     for (plan, number, place) in [
         (p2_with(6, 4), 22, 3),
-        (p2_with(20, 6), 21, 1),
         (p2_with(9, 2), 19, 0),
         (p2_with(10, 2), 18, 0),
         (p2_with(9, 3), 17, 0),
@@ -354,11 +380,13 @@ fn worked_plans_get_their_answers() {
         folder.refused("rebuild code 0 plan --symbol 1 stripes -o out", number, place);
     }
     folder.put("plan", &p2_with(20, 6));
-    let sentence = folder.refused("check code 0 plan", 21, 1);
-    assert_eq!(sentence, "row 1 of the failed disk ends wrong under this code (plan)");
+    let sentence = folder.refused("check code 0 plan", 21, 64);
+    assert_eq!(sentence, "row 1 of the failed disk ends wrong: data symbol 0 is off (plan)");
+    folder.refused("rebuild code 0 plan --symbol 1 stripes --in-place", 21, 64);
+    folder.refused("rebuild code 0 plan --symbol 1 stripes -o out", 21, 64);
     folder.put("plan", &P2);
     folder.put("other", &sheet(4, 2, 4, &[1, 2, 4, 8, 5, 10, 9, 7]));
-    folder.refused("rebuild other 0 plan --symbol 1 stripes --in-place", 21, 1);
+    folder.refused("rebuild other 0 plan --symbol 1 stripes --in-place", 21, 64);
     folder.put("other", &sheet(4, 2, 4, &[1, 2, 4, 8, 5, 10, 9, 22]));
     let sentence = folder.refused("check other 0 plan", 6, 7 * 64 + 4);
     assert!(sentence.ends_with("(other)"), "{sentence}");
@@ -934,7 +962,7 @@ fn the_demonstration_comes_out_right() {
         "compared: all 4480 bytes are as they were",
         "wrote row2.sheet: 26 bytes, 5 steps, reads 5 symbols, brings back disk 0 row 2",
         "compared: row 2 is as it was, and no other byte has changed",
-        "refused 21 at 0: row 0 of the failed disk ends wrong under this code (plan.sheet)",
+        "refused 21 at 5: row 0 of the failed disk ends wrong: data symbol 5 is off (plan.sheet)",
         "refused 15 at 0: ",
         "compared: not a byte of stripes.bin has changed",
         "The pattern is 8, bits 001000",

@@ -6,6 +6,7 @@ pub mod SetLaws
 pub mod NumeralLaws
 pub mod ListLaws
 pub mod SearchLaws
+pub mod DifferenceLaws
 pub mod CountLaws
 pub mod StoreLaws
 pub mod PaddedLaws

@@ -1,12 +1,13 @@
 // Rows and sets of symbols as sets of bits.
 // A set's word is known here alone: code above uses these functions, and contracts speak of the set's number.
 ghost use mathlib.Core.Path.{_≡_};
+ghost use mathlib.Core.Bool.{not};
 ghost use Prim.Native.Nat.{_*_, _/_, _%_, _^_, _≤_, _<_};
 ghost use lib.Bits.{bitAnd, bitOr, bitXor};
-ghost use lib.Dec.{eqb};
+ghost use lib.Dec.{eqb, ltb};
 ghost use lib.ListN.{replicate};
 ghost use Rattle.bits.specs.BitSets.{has, with, below, count, overlap};
-ghost use Rattle.bits.specs.Numerals.{setWidth, numeral, numerals};
+ghost use Rattle.bits.specs.Numerals.{setWidth, numeral, numerals, firstDifference};
 
 // A row of a code, a set of symbols or a pattern: bit 0 is the lowest.
 pub struct BitSet {
@@ -42,11 +43,12 @@ pub fn sum(a: BitSet, b: BitSet) -> BitSet
     }
 }
 
-// Whether two sets have the same elements.
-pub fn equal(a: BitSet, b: BitSet) -> bool
-    ensures { λ r. ⌜ r ≡ eqb (numeral a) (numeral b) ⌝ }
+// The lowest element in which two sets differ; SET_WIDTH where they are equal.
+pub fn first_difference(a: BitSet, b: BitSet) -> usize
+    ensures lowest { λ r. ⌜ r ≡ firstDifference (numeral a) (numeral b) ⌝ }
+    ensures equal { λ r. ⌜ ltb r setWidth ≡ not (eqb (numeral a) (numeral b)) ⌝ }
 {
-    a.word == b.word
+    u64::trailing_zeros(a.word ^ b.word) as usize
 }
 
 // Whether the set has no element.

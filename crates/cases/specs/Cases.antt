@@ -144,8 +144,8 @@ rulesCases =
     ∷ prints (0 ∷ 70 ∷ 0 ∷ square ++ squarePlan 4 1 0 7) (squareLines refused22At3)
     -- P3: count 4
     ∷ answers square 0 (squarePlan 4 1 0 7) (Refuses (22 at 3))
-    -- P4: last source 06
-    ∷ answers square 0 (squarePlan 3 1 0 6) (Refuses (21 at 1))
+    -- P4: last source 06. Row 1 ends wrong, and data symbol 0 is off (document 02, §7)
+    ∷ answers square 0 (squarePlan 3 1 0 6) (Refuses (21 at 64))
     -- P5: first kind 2
     ∷ answers square 0 (squarePlan 3 2 0 7) (Refuses (19 at 0))
     -- P6: first target 02
@@ -180,7 +180,7 @@ wantedCases =
     ∷ answers square 0 (wantedPlan 2 (1 ∷ 0 ∷ 1 ∷ 0 ∷ 1 ∷ 0 ∷ 1 ∷ [])) (Refuses (19 at 0))
     -- row 1 is wanted: never filled, and ending wrong
     ∷ answers square 0 (wantedPlan 0 (1 ∷ 1 ∷ 0 ∷ 0 ∷ [])) (Refuses (20 at 1))
-    ∷ answers square 0 (wantedPlan 1 (1 ∷ 1 ∷ 1 ∷ 0 ∷ 1 ∷ 1 ∷ 3 ∷ [])) (Refuses (21 at 1))
+    ∷ answers square 0 (wantedPlan 1 (1 ∷ 1 ∷ 1 ∷ 0 ∷ 1 ∷ 1 ∷ 3 ∷ [])) (Refuses (21 at 65))
     -- lists: none, more than r, an equal neighbour, a falling one, a symbol of another disk
     ∷ answers square 0 (wantedPlan 2 (0 ∷ 0 ∷ 0 ∷ [])) (Refuses (23 at 0))
     ∷ answers square 0 (wantedPlan 2 (3 ∷ 0 ∷ 0 ∷ 1 ∷ 0 ∷ 0 ∷ [])) (Refuses (23 at 0))

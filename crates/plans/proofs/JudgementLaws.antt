@@ -109,7 +109,7 @@ module _ (count : ℕ) (wanted : ℕ → Bool) where
       each-formed-if-fine (extend known (first .target)) (suc number) steps (both-fine here _ e .1) s m
 
   -- and that the plan uses only surviving symbols or places already filled
-  usesOnlyKnown-if-fine : (known : ℕ → Bool) (number : ℕ) (steps : List SheetStep) → stepsVerdict count wanted known number steps ≡ Fine
+  pub usesOnlyKnown-if-fine : (known : ℕ → Bool) (number : ℕ) (steps : List SheetStep) → stepsVerdict count wanted known number steps ≡ Fine
       → UsesOnlyKnown wanted known (map stepOf steps)
   unfolding stepsVerdict
   usesOnlyKnown-if-fine known number [] e = done
@@ -138,7 +138,7 @@ module _ (count : ℕ) (wanted : ℕ → Bool) where
 
 module _ (count : ℕ) (wanted : ℕ → Bool) (below : PlacesBelow count wanted) (test : ℕ → Bool) where
   -- Where the search for the lowest finds none, the test holds at no wanted symbol
-  none-wanted-if-none-lowest : count ≤ lowestWanted count wanted test → (s : ℕ) → wanted s ≡ true → test s ≡ false
+  pub none-wanted-if-none-lowest : count ≤ lowestWanted count wanted test → (s : ℕ) → wanted s ≡ true → test s ≡ false
   none-wanted-if-none-lowest behind s is-wanted =
       let none = none-if-firstFrom-behind (λ t. wanted t && test t) count 0 s (omega arith) (omega arith) (omega (arith, below s is-wanted)) in
       sym (ap (λ (c : Bool). c && test s) is-wanted) ∙ none
@@ -162,7 +162,7 @@ pub record RulesKept (rows : List ℕ) (count : ℕ) (survives wanted : ℕ → 
 
 module _ (rows : List ℕ) (count : ℕ) (survives wanted : ℕ → Bool) (origin : ℕ) (sets : SetsWithin count survives wanted origin) (steps : List SheetStep) (stated : ℕ) where
   -- Run on the rows of the symbols, the steps give each symbol what they give it run on all rows
-  run-on-symbols : UsesOnlyKnown wanted survives (map stepOf steps) → (t : ℕ) → t < count
+  pub run-on-symbols : UsesOnlyKnown wanted survives (map stepOf steps) → (t : ℕ) → t < count
       → getD (run (map stepOf steps) (take count rows)) t 0 ≡ getD (run (map stepOf steps) rows) t 0
   run-on-symbols formed t h =
       ap (λ (l : List ℕ). getD l t 0)
@@ -326,7 +326,7 @@ module _ (code : LinearCode) (within : WithinLimits code) (disk : ℕ) (disk-bel
 
   module _ (plan : Plan) where
     -- A fine verdict on the head says that it fits, and that the wanted list is good
-    head-fine : firstOf (headFaults (code .layout) (code .data_symbols) disk (plan .head) ++ wantedFaults (code .layout) disk (plan .head .edition) (plan .wanted)) ≡ Fine
+    pub head-fine : firstOf (headFaults (code .layout) (code .data_symbols) disk (plan .head) ++ wantedFaults (code .layout) disk (plan .head .edition) (plan .wanted)) ≡ Fine
         → HeadFits code disk (plan .head) × WantedGood code disk plan
     head-fine e =
         let heads = headFaults (code .layout) (code .data_symbols) disk (plan .head) in

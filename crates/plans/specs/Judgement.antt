@@ -1,9 +1,9 @@
--- The judgement of a plan with any number of steps (document 01, "When the desk says no" and "How tight the answers are"; document 02, §3 and §6):
+-- The judgement of a plan with any number of steps (document 01, "When the desk says no" and "How tight the answers are"; document 02, §3, §6 and §7):
 -- 13 for the first count, 14, 15, 16, 23; then steps in order, in each 17, 18, 25, 19; then 20 over all wanted symbols, 21 over all of them, 22.
 use mathlib.Core.Path.{_≡_}
 use mathlib.Core.Bool.{Bool, true, false, cond, not, _&&_, _||_}
 use mathlib.Core.List.{List, [], _∷_, _++_, map, List·Memᴰ}
-use Prim.Native.Nat.{ℕ, suc, _-_, _≤_}
+use Prim.Native.Nat.{ℕ, suc, _+_, _-_, _*_, _≤_}
 use lib.Dec.{eqb, leb, ltb}
 use lib.ListN.{getD}
 use Rattle.plan_sheets.specs.PlanSheets.{Plan, stepOf}
@@ -13,6 +13,7 @@ use Rattle.codes.specs.Codes.{LinearCode}
 use Rattle.codes.specs.Layouts.{symbolsOf, firstSymbol, heightOf, onDisk}
 use Rattle.codes.specs.declared.Layout.{Layout}
 use Rattle.bits.specs.Lists.{firstFrom, countFrom}
+use Rattle.bits.specs.Numerals.{firstDifference}
 use Rattle.gf2.specs.Plans.{run, readByAny, PlacesBelow, extend, ready, filledAfter}
 use Rattle.gf2.specs.declared.Step.{Step}
 use Rattle.lists.specs.Lists.{listFaults, listed}
@@ -120,18 +121,27 @@ endsWrong rows steps s = not (eqb (getD (run steps rows) s 0) (getD rows s 0))
 abbrev pub lowestWanted : ℕ → (ℕ → Bool) → (ℕ → Bool) → ℕ
 lowestWanted count wanted test = firstFrom (λ s. wanted s && test s) 0 count
 
--- 20 over all wanted symbols, 21 over all of them, 22. A symbol's place counts from the origin
-abbrev pub endOrder : ℕ → ℕ → ℕ → ℕ → ℕ → ℕ → List Fault
-endOrder count origin unfilled wrong stated trueCount =
+-- The lowest data symbol in which the row that the steps make and the symbol's own differ
+abbrev pub lowestOff : List ℕ → List Step → ℕ → ℕ
+lowestOff rows steps s = firstDifference (getD (run steps rows) s 0) (getD rows s 0)
+
+-- So many places has a row where a data symbol is named besides: rows of code sheet edition 1 have 64 bits
+abbrev pub placesPerRow : ℕ
+placesPerRow = 64
+
+-- 20 over all wanted symbols, 21 over all of them, 22. A symbol's row counts from the origin; 21 names a data symbol besides
+abbrev pub endOrder : ℕ → ℕ → ℕ → ℕ → ℕ → ℕ → ℕ → List Fault
+endOrder count origin unfilled wrong off stated trueCount =
     (ltb unfilled count gets 20 at unfilled - origin)
-    ∷ (ltb wrong count gets 21 at wrong - origin)
+    ∷ (ltb wrong count gets 21 at (wrong - origin) * placesPerRow + off)
     ∷ (not (eqb stated trueCount) gets 22 at trueCount)
     ∷ []
 
 abbrev pub endFaults : List ℕ → ℕ → (ℕ → Bool) → (ℕ → Bool) → ℕ → List Step → ℕ → List Fault
 endFaults rows count survives wanted origin steps stated =
-    endOrder count origin (lowestWanted count wanted (neverFilled survives steps)) (lowestWanted count wanted (endsWrong rows steps)) stated
-    (trueReadCount count survives steps)
+    let unfilled = lowestWanted count wanted (neverFilled survives steps) in
+    let wrong = lowestWanted count wanted (endsWrong rows steps) in
+    endOrder count origin unfilled wrong (lowestOff rows steps wrong) stated (trueReadCount count survives steps)
 
 -- ------------------------------------------------------------------
 -- The judgement

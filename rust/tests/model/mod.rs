@@ -285,8 +285,11 @@ pub fn check(sheet: &[u8], disk: u64, plan: &[u8]) -> Result<u64, No> {
     if let Some(&s) = plan.wanted.iter().find(|&&s| held[s].is_none()) {
         return Err((20, row(s)));
     }
-    if let Some(&s) = plan.wanted.iter().find(|&&s| held[s].as_ref() != Some(&code.rows[s])) {
-        return Err((21, row(s)));
+    for &s in &plan.wanted {
+        let made = held[s].as_ref().expect("filled");
+        if let Some(off) = (0..code.data).find(|&t| made[t] != code.rows[s][t]) {
+            return Err((21, row(s) * 64 + off as u64));
+        }
     }
     if plan.reads != read.len() {
         return Err((22, read.len() as u64));

@@ -15,7 +15,7 @@ returns : tie.Need-returns
 returns c =
     let check = c .before .check in
     let told = c .out-checked .ensures in
-    (told ∙ ap outChecked (check .ensures .0), accepted-out-exactly (check .result) told (check .ensures .1))
+    (told ∙ ap outChecked (check .ensures .0), accepted-out-exactly (check .result) told (check .ensures .1 .0))
 
 pub navorzim-check-spec : {M : Type 1} → statement M
 navorzim-check-spec = tie.close (tie.spec check-requires out-checked-requires returns)

@@ -235,10 +235,10 @@ fn show(arguments: &mut Arguments) -> Result<String, Failure> {
         return Err(arguments.misuse(misuse.to_string()));
     }
     let code = Code::open(&code)?;
-    let story = match (disk, &plan) {
-        (None, _) => Story::Code,
-        (Some(disk), None) => planned_story(&code, disk, request.as_ref())?,
-        (Some(disk), Some(plan)) => checked_story(&code, disk, &Plan::open(plan)?)?,
+    let (story, refused) = match (disk, &plan) {
+        (None, _) => (Story::Code, None),
+        (Some(disk), None) => (planned_story(&code, disk, request.as_ref())?, None),
+        (Some(disk), Some(plan)) => judged_story(&code, disk, &Plan::open(plan)?)?,
     };
     let picture = Picture::new(&code, &story);
     if let Some(drawing) = drawing {
@@ -246,9 +246,10 @@ fn show(arguments: &mut Arguments) -> Result<String, Failure> {
         replacement::replace(&drawing, &[&code.file, plan], svg::draw(&picture).as_bytes())?;
     }
     let text = text::draw(&picture, Style::of_stdout());
-    match story {
-        Story::Stuck(stuck) => Err(no_plan(text, code, &stuck)),
-        Story::Code | Story::Plan { .. } => Ok(text),
+    match (story, refused) {
+        (_, Some(refused)) => Err(Failure::Drawn { text, refused }),
+        (Story::Stuck(stuck), None) => Err(no_plan(text, code, &stuck)),
+        (Story::Code | Story::Plan { .. } | Story::Wrong { .. }, None) => Ok(text),
     }
 }
 
@@ -300,6 +301,19 @@ fn planned_story(code: &Code, disk: u64, request: Option<&Request>) -> Result<St
             let plan = Plan { file: code.file.clone(), sheet: plan };
             checked_story(code, disk, &plan)
         }
+    }
+}
+
+/// A given plan as a story: an accepted one, or one that ends wrong, with its refusal.
+fn judged_story(code: &Code, disk: u64, plan: &Plan) -> Result<(Story, Option<Refused>), Failure> {
+    match navorzim::check(&code.sheet, disk, &plan.sheet) {
+        Err(refusal @ Refusal::EndsWrong { row, .. }) => {
+            let symbol = disk as usize * code.rows + row as usize;
+            let story = Story::Wrong { disk: disk as usize, wanted: plan.wanted(), steps: plan.steps(), symbol };
+            let refused = Refused { refusal, detail: String::new(), file: Some(plan.file.clone()) };
+            Ok((story, Some(refused)))
+        }
+        _ => Ok((checked_story(code, disk, plan)?, None)),
     }
 }
 

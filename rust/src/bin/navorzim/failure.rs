@@ -10,6 +10,8 @@ pub enum Failure {
     Refused(Refused),
     /// The planner answered a pattern: `text` is the answer, for standard output, and `what` a sentence on what can't be rebuilt.
     NoPlan { text: String, what: String, code: PathBuf },
+    /// The library said no, and there is a picture of why: `text`, for standard output.
+    Drawn { text: String, refused: Refused },
     /// The command line can't be understood; `command` is the one whose help is of use.
     Misuse { what: String, command: &'static str },
     /// A file can't be read, written or used as asked.
@@ -49,7 +51,7 @@ impl Failure {
     /// 1 for a refusal and for a disk that can't be rebuilt, 2 for everything that never reached the library.
     pub fn status(&self) -> u8 {
         match self {
-            Failure::Refused(_) | Failure::NoPlan { .. } | Failure::Unexpected { .. } => 1,
+            Failure::Refused(_) | Failure::Drawn { .. } | Failure::NoPlan { .. } | Failure::Unexpected { .. } => 1,
             Failure::Misuse { .. } | Failure::File(_) => 2,
         }
     }
@@ -72,7 +74,7 @@ impl fmt::Display for Refused {
 impl fmt::Display for Failure {
     fn fmt(&self, f: &mut fmt::Formatter<'_>) -> fmt::Result {
         match self {
-            Failure::Refused(refused) => write!(f, "{refused}"),
+            Failure::Refused(refused) | Failure::Drawn { refused, .. } => write!(f, "{refused}"),
             Failure::NoPlan { what, code, .. } => write!(f, "{what} ({})", printable(code)),
             Failure::Misuse { what, command: "" } => {
                 write!(f, "{what}\n`navorzim help` says how it is used")

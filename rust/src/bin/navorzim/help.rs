@@ -144,7 +144,8 @@ Reads the code sheet CODE and draws it: disks as columns, rows as cells.
 
   --disk D     disk D is lost: plans its rebuild and draws what is read and the steps, or,
                with status 1, the pattern that shows why no plan can be
-  --plan PLAN  draws this plan for disk D instead; it is checked first
+  --plan PLAN  draws this plan for disk D instead; it is checked first. One that ends wrong (21)
+               is drawn with the row that does and the data symbol that is off, with status 1
   --want LIST  plans for these symbols of disk D only, as plan --want does; the lost symbols
                that aren't wanted are drawn apart
   --svg FILE   writes the picture to FILE besides

@@ -96,7 +96,9 @@ fn print(text: &str, status: u8) -> u8 {
 
 fn complain(failure: &Failure) -> u8 {
     let status = match failure {
-        Failure::NoPlan { text, .. } | Failure::Unexpected { text, .. } => print(text, failure.status()),
+        Failure::NoPlan { text, .. } | Failure::Drawn { text, .. } | Failure::Unexpected { text, .. } => {
+            print(text, failure.status())
+        }
         _ => failure.status(),
     };
     let _ = writeln!(io::stderr(), "navorzim: {failure}");

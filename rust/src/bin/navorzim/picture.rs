@@ -9,6 +9,8 @@ pub enum Story {
     Code,
     /// an accepted plan for a lost disk, or for some of its symbols
     Plan { disk: usize, wanted: Wanted, reads: u64, steps: Vec<Step> },
+    /// a plan for a lost disk that is refused, because this symbol ends wrong
+    Wrong { disk: usize, wanted: Wanted, steps: Vec<Step>, symbol: usize },
     /// no plan can be
     Stuck(Stuck),
 }
@@ -37,6 +39,8 @@ pub enum Mark {
     Wanted,
     /// lost, and left as it is by a plan for other symbols
     Unwanted,
+    /// lost, and a plan makes something else of it
+    Wrong,
     /// survives and is read
     Read,
     /// survives and is not needed
@@ -60,6 +64,7 @@ impl Mark {
             Mark::Lost => "lost",
             Mark::Wanted => "lost, wanted",
             Mark::Unwanted => "lost, not wanted",
+            Mark::Wrong => "lost, ends wrong",
             Mark::Read => "survives, read",
             Mark::Idle => "survives, not read",
             Mark::Differs => "lost, differs",
@@ -104,12 +109,17 @@ impl Cell {
 
     /// The members with something between them; a sum of nothing is zero.
     pub fn spelled(&self, between: &str) -> String {
-        if self.sum == 0 {
-            return "zero".to_string();
-        }
-        let named: Vec<String> = members(self.sum).map(|t| format!("d{t}")).collect();
-        named.join(between)
+        spelled(self.sum, between)
     }
+}
+
+/// The members of a sum with something between them; a sum of nothing is zero.
+fn spelled(sum: u64, between: &str) -> String {
+    if sum == 0 {
+        return "zero".to_string();
+    }
+    let named: Vec<String> = members(sum).map(|t| format!("d{t}")).collect();
+    named.join(between)
 }
 
 /// What is drawn.
@@ -142,15 +152,17 @@ impl Picture {
             cells: cells.collect(),
             roles: (0..code.disks).map(|disk| code.role(disk)).collect(),
             sums: match story {
-                Story::Plan { disk, wanted, steps, .. } => brought_back(code, *disk, wanted, steps),
+                Story::Plan { disk, wanted, steps, .. } | Story::Wrong { disk, wanted, steps, .. } => {
+                    brought_back(code, *disk, wanted, steps)
+                }
                 Story::Code | Story::Stuck(_) => Vec::new(),
             },
             lost: match story {
                 Story::Code => None,
-                Story::Plan { disk, .. } | Story::Stuck(Stuck { disk, .. }) => Some(*disk),
+                Story::Plan { disk, .. } | Story::Wrong { disk, .. } | Story::Stuck(Stuck { disk, .. }) => Some(*disk),
             },
             steps: match story {
-                Story::Plan { steps, .. } => steps.clone(),
+                Story::Plan { steps, .. } | Story::Wrong { steps, .. } => steps.clone(),
                 Story::Code | Story::Stuck(_) => Vec::new(),
             },
         }
@@ -177,7 +189,7 @@ impl Picture {
     /// The marks that occur, in the order in which a legend explains them, and how many cells have each.
     pub fn legend(&self) -> Vec<(Mark, usize)> {
         use Mark::*;
-        [Data, Sum, Lost, Wanted, Differs, Same, Unwanted, Read, Cancels, Idle, Apart]
+        [Data, Sum, Lost, Wanted, Wrong, Differs, Same, Unwanted, Read, Cancels, Idle, Apart]
             .into_iter()
             .map(|mark| (mark, self.cells.iter().filter(|cell| cell.mark == mark).count()))
             .filter(|&(_, cells)| cells > 0)
@@ -191,13 +203,16 @@ fn mark(code: &Code, story: &Story, symbol: usize) -> Mark {
     match story {
         Story::Code if sum.count_ones() == 1 => Mark::Data,
         Story::Code => Mark::Sum,
-        Story::Plan { disk, wanted, .. } if lost(*disk) => match wanted {
+        Story::Wrong { symbol: wrong, .. } if *wrong == symbol => Mark::Wrong,
+        Story::Plan { disk, wanted, .. } | Story::Wrong { disk, wanted, .. } if lost(*disk) => match wanted {
             Wanted::Disk => Mark::Lost,
             Wanted::Symbols(_) if wanted.has(symbol) => Mark::Wanted,
             Wanted::Symbols(_) => Mark::Unwanted,
         },
-        Story::Plan { steps, .. } if steps.iter().any(|step| reads(step, symbol)) => Mark::Read,
-        Story::Plan { .. } => Mark::Idle,
+        Story::Plan { steps, .. } | Story::Wrong { steps, .. } if steps.iter().any(|step| reads(step, symbol)) => {
+            Mark::Read
+        }
+        Story::Plan { .. } | Story::Wrong { .. } => Mark::Idle,
         Story::Stuck(stuck) => match (lost(stuck.disk), sum & stuck.bits) {
             (true, _) if !stuck.wanted.has(symbol) => Mark::Unwanted,
             (true, common) if common.count_ones() % 2 == 1 => Mark::Differs,
@@ -246,8 +261,29 @@ fn notes(code: &Code, story: &Story) -> Vec<String> {
                 counted(survivors, "surviving symbol")
             )]
         }
+        Story::Wrong { disk, wanted, steps, symbol } => {
+            let (is, made) = (code.sums[*symbol], made_of(code, *disk, wanted, steps, *symbol));
+            let off: Vec<String> = members(is ^ made).map(|t| format!("d{t}")).collect();
+            let others = if off.len() > 1 { format!(", and {}", off[1..].join(" ")) } else { String::new() };
+            vec![
+                format!("Disk {disk} is lost. The plan is refused: row {} ends wrong.", code.row_of(*symbol)),
+                format!(
+                    "Symbol {symbol} is {}, and the steps make {} of it: {} is off{others}.",
+                    spelled(is, " + "),
+                    spelled(made, " + "),
+                    off.first().map_or("nothing", String::as_str),
+                ),
+            ]
+        }
         Story::Stuck(stuck) => stuck.notes(code),
     }
+}
+
+/// The data symbols that the steps make a lost symbol the sum of.
+fn made_of(code: &Code, disk: usize, wanted: &Wanted, steps: &[Step], symbol: usize) -> u64 {
+    let sums = brought_back(code, disk, wanted, steps);
+    let sources = sums.iter().find(|(brought, _)| *brought == symbol).map_or(0, |&(_, sources)| sources);
+    members(sources).fold(0, |sum, source| sum ^ code.sums.get(source).copied().unwrap_or(0))
 }
 
 impl Stuck {

@@ -25,7 +25,7 @@ fn colours(mark: Mark) -> [&'static str; 3] {
         Mark::Lost | Mark::Wanted => ["#fdeaea", "#c43c38", "#8f1d1a"],
         Mark::Unwanted => ["#ffffff", "#b07f7d", "#744b49"],
         Mark::Same => ["#fdeaea", "#c98482", "#853431"],
-        Mark::Differs => ["#b3302c", "#7d1c19", "#ffffff"],
+        Mark::Differs | Mark::Wrong => ["#b3302c", "#7d1c19", "#ffffff"],
         Mark::Read => ["#e2f5e8", "#2e8a50", "#145a2d"],
         Mark::Cancels => ["#fff3d6", "#b98718", "#5f4200"],
         Mark::Idle | Mark::Apart => ["#f6f7f9", "#a3adb8", "#525d69"],
@@ -37,7 +37,8 @@ fn dashes(mark: Mark) -> &'static str {
     match mark {
         Mark::Lost | Mark::Wanted | Mark::Same => r#" stroke-dasharray="5 3""#,
         Mark::Unwanted => r#" stroke-dasharray="1.5 3""#,
-        Mark::Data | Mark::Sum | Mark::Read | Mark::Idle | Mark::Differs | Mark::Cancels | Mark::Apart => "",
+        Mark::Data | Mark::Sum | Mark::Read | Mark::Idle => "",
+        Mark::Wrong | Mark::Differs | Mark::Cancels | Mark::Apart => "",
     }
 }
 

@@ -47,6 +47,7 @@ fn sign(mark: Mark) -> char {
         Mark::Read => '●',
         Mark::Idle | Mark::Apart => '·',
         Mark::Differs => '≠',
+        Mark::Wrong => '!',
         Mark::Same => '=',
         Mark::Cancels => '○',
     }
@@ -59,7 +60,7 @@ fn colour(mark: Mark) -> &'static str {
         Mark::Sum => "35",
         Mark::Lost | Mark::Wanted | Mark::Same => "31",
         Mark::Unwanted => "2;31",
-        Mark::Differs => "1;31",
+        Mark::Differs | Mark::Wrong => "1;31",
         Mark::Read => "32",
         Mark::Cancels => "33",
         Mark::Idle | Mark::Apart => "2",

@@ -1,75 +1,44 @@
--- `checker::body::first_unfilled` meets its contract. The invariant: each wanted symbol passed is filled. Assumes nothing.
-use mathlib.Core.Path.{_≡_, sym, _∙_}
-use mathlib.Core.Bool.{false, not, _&&_}
-use Prim.Native.Nat.{ℕ, _-_, _≤_, _<_}
-use native.Mathlib.Nat.{le-refl, not-suc-le-zero}
-use native.Mathlib.Omega.{arith}
-use borrow.Author.Count.{below-more}
-use borrow.Author.Tests.{eqb-true}
+-- `checker::body::first_unfilled` meets its contract: what is wanted and known differs from what is wanted in what is unfilled. Assumes nothing.
+use mathlib.Core.Path.{_≡_, sym, ap, _∙_}
+use mathlib.Core.Bool.{Bool, cond, not}
+use Prim.Native.Nat.{ℕ}
+use lib.Dec.{ltb}
+use borrow.Author.Tests.{lt-ltb, le-ltb}
 use Rattle.bits.specs.BitSets.{has}
-use Rattle.bits.specs.Numerals.{numeral}
-use Rattle.plans.proofs.EndLaws.{all-known, lowest-found, lowest-none}
+use Rattle.bits.specs.Numerals.{numeral, firstDifference}
+use Rattle.plans.specs.Judgement.{lowestWanted}
+use Rattle.plans.proofs.EndLaws.{lowest-unknown}
 use Rattle.checker.proofs.body.first_unfilled.Statement.{statement}
 use Rattle.checker.proofs.body.first_unfilled.Tie as tie
 
-abbrev Inv-loop : tie.InvT-loop
-Inv-loop symbols wanted known s₀ s = (s ≤ symbols) × ((j : ℕ) → j < s → (has (numeral wanted) j && not (has (numeral known) j)) ≡ false)
-
-abbrev μ-loop : tie.MeasureT-loop
-μ-loop symbols wanted known s₀ s = symbols - s
-
-common-requires : tie.Need-common-requires Inv-loop μ-loop
+common-requires : tie.Need-common-requires
 common-requires c κs = tt
 
-equal-requires : tie.Need-equal-requires Inv-loop μ-loop
-equal-requires c κs = tt
+first-difference-requires : tie.Need-first-difference-requires
+first-difference-requires c κs = tt
 
-returns : tie.Need-returns Inv-loop μ-loop
+-- The lowest wanted symbol that is unfilled, by where the sets differ
+found : (c : tie.After-first-difference)
+    → let args = c .before .before .args in let first = c .first-difference .result in
+    cond (ltb first (args .symbols)) first (args .symbols) ≡ lowestWanted (args .symbols) (has (numeral (args .wanted))) (λ s. not (has (numeral (args .known)) s))
+found c =
+    let start = c .before .before in
+    let wanted = numeral (start .args .wanted) in
+    lowest-unknown (start .args .symbols) wanted (numeral (start .args .known)) (start .pre)
+    (c .first-difference .ensures .0 ∙ ap (λ (both : ℕ). firstDifference both wanted) (c .before .common .ensures))
+
+returns : tie.Need-returns
 returns c =
-    let args = c .before .before .before .args in
-    let all = sym (c .before .before .common .ensures) ∙ eqb-true _ _ (sym (c .before .equal .ensures) ∙ c .if1 .taken) in
-    lowest-none (args .symbols) (has (numeral (args .wanted))) (λ s. not (has (numeral (args .known)) s)) (args .symbols) (λ j h. all-known (numeral (args .wanted)) (numeral (args .known)) all j) (le-refl _) (le-refl _)
+    let first = c .before .first-difference .result in
+    let symbols = c .before .before .before .args .symbols in
+    sym (ap (λ (here : Bool). cond here first symbols) (lt-ltb first symbols (c .if1 .taken))) ∙ found (c .before)
 
-loop-holds : tie.Need-loop-holds Inv-loop μ-loop
-loop-holds c = (omega arith, λ j h. absurd (not-suc-le-zero h))
-
-is-unfilled-requires : tie.Need-is-unfilled-requires Inv-loop μ-loop
-is-unfilled-requires c κs = omega (arith, c .before .before .before .before .before .pre)
-
-returns-2 : tie.Need-returns-2 Inv-loop μ-loop
+returns-2 : tie.Need-returns-2
 returns-2 c =
-    let args = c .before .before .before .before .before .before .before .args in
-    let loop = c .before .before .before .loop in
-    lowest-found (args .symbols) (has (numeral (args .wanted))) (λ s. not (has (numeral (args .known)) s)) (loop .s) (loop .inv .1) (c .before .before .loop-test .taken)
-    (sym (c .before .is-unfilled .ensures) ∙ c .if2 .taken)
-
-add-s : tie.Need-add-s Inv-loop μ-loop
-add-s c = omega arith
-
-loop-less : tie.Need-loop-less Inv-loop μ-loop
-loop-less c = omega arith
-
-loop-again : tie.Need-loop-again Inv-loop μ-loop
-loop-again c = (omega arith, below-more _ _ (c .before .before .before .loop .inv .1) (sym (c .before .is-unfilled .ensures) ∙ c .if2 .left))
-
-returns-3 : tie.Need-returns-3 Inv-loop μ-loop
-returns-3 c =
-    let args = c .before .before .before .before .before .args in
-    lowest-none (args .symbols) (has (numeral (args .wanted))) (λ s. not (has (numeral (args .known)) s)) (c .before .loop .s) (c .before .loop .inv .1) (omega arith) (omega arith)
+    let first = c .before .first-difference .result in
+    let symbols = c .before .before .before .args .symbols in
+    sym (ap (λ (here : Bool). cond here first symbols) (le-ltb first symbols (c .if1 .left))) ∙ found (c .before)
 
 pub first-unfilled-spec : {M : Type 1} → statement M
 first-unfilled-spec =
-    tie.close
-    (tie.spec
-    Inv-loop
-    μ-loop
-    common-requires
-    equal-requires
-    returns
-    loop-holds
-    is-unfilled-requires
-    returns-2
-    add-s
-    loop-less
-    loop-again
-    returns-3)
+    tie.close (tie.spec common-requires first-difference-requires returns returns-2)
