@@ -1,7 +1,7 @@
 -- `capi::navorzim_check` meets its contract: it is `check`, and what goes out tells acceptance. Assumes nothing.
 use mathlib.Core.Path.{ap, _∙_}
-use Rattle.capi.proofs.AnswerLaws.{accepted-out-exactly}
-use Rattle.capi.specs.Answers.{outChecked}
+use Rattle.answers.proofs.AnswerLaws.{accepted-out-exactly}
+use Rattle.answers.specs.Answers.{outChecked}
 use Rattle.capi.proofs.navorzim_check.Statement.{statement}
 use Rattle.capi.proofs.navorzim_check.Tie as tie
 

@@ -1,6 +1,6 @@
 -- `capi::navorzim_encode` meets its contract: it is `encode`. Assumes nothing.
 use mathlib.Core.Path.{ap, _∙_}
-use Rattle.capi.specs.Answers.{outVerdict}
+use Rattle.answers.specs.Answers.{outVerdict}
 use borrow.Author.Needs.{needs}
 use Rattle.capi.proofs.navorzim_encode.Statement.{statement}
 use Rattle.capi.proofs.navorzim_encode.Tie as tie

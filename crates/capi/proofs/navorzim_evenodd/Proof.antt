@@ -1,6 +1,6 @@
 -- `capi::navorzim_evenodd` meets its contract: it is `write_family` of this family. Assumes nothing.
 use lib.ListN.{length}
-use Rattle.capi.proofs.AnswerLaws.{family-out}
+use Rattle.answers.proofs.AnswerLaws.{family-out}
 use Rattle.family_codes.specs.declared.Family.the-variants.{EvenOdd}
 use borrow.Author.Needs.{needs}
 use Rattle.capi.proofs.navorzim_evenodd.Statement.{statement}

@@ -1,7 +1,7 @@
 -- `capi::navorzim_look_up` meets its contract: it is `symbol_place`. Assumes nothing.
 use mathlib.Core.Path.{ap, _∙_}
-use Rattle.capi.proofs.AnswerLaws.{shows-out-of-two}
-use Rattle.capi.specs.Answers.{outPart}
+use Rattle.answers.proofs.AnswerLaws.{shows-out-of-two}
+use Rattle.answers.specs.Answers.{outPart}
 use Rattle.capi.proofs.navorzim_look_up.Statement.{statement}
 use Rattle.capi.proofs.navorzim_look_up.Tie as tie
 

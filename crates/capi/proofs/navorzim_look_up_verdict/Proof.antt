@@ -1,6 +1,6 @@
 -- `capi::navorzim_look_up_verdict` meets its contract: it is `look_up_verdict`. Assumes nothing.
 use mathlib.Core.Path.{ap, _∙_}
-use Rattle.capi.specs.Answers.{outVerdict}
+use Rattle.answers.specs.Answers.{outVerdict}
 use Rattle.capi.proofs.navorzim_look_up_verdict.Statement.{statement}
 use Rattle.capi.proofs.navorzim_look_up_verdict.Tie as tie
 

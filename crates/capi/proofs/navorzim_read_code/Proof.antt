@@ -1,5 +1,5 @@
 -- `capi::navorzim_read_code` meets its contract: it is `read_code`, and the numbers of its code. Assumes nothing.
-use Rattle.capi.proofs.AnswerLaws.{code-out}
+use Rattle.answers.proofs.AnswerLaws.{code-out}
 use Rattle.code_sheets.specs.CodeReading.{asRead}
 use Rattle.views.proofs.ReadLaws.{layout-small}
 use Rattle.capi.proofs.navorzim_read_code.Statement.{statement}

@@ -1,7 +1,7 @@
 -- `capi::navorzim_rebuild` meets its contract: it is `rebuild`, and number 0 says that nothing was refused. Assumes nothing.
 use mathlib.Core.Path.{ap, _∙_}
-use Rattle.capi.proofs.AnswerLaws.{number-0-is-fine}
-use Rattle.capi.specs.Answers.{outVerdict}
+use Rattle.answers.proofs.AnswerLaws.{number-0-is-fine}
+use Rattle.answers.specs.Answers.{outVerdict}
 use borrow.Author.Needs.{needs}
 use Rattle.capi.proofs.navorzim_rebuild.Statement.{statement}
 use Rattle.capi.proofs.navorzim_rebuild.Tie as tie

@@ -1,8 +1,8 @@
 -- `capi::navorzim_strip` meets its contract: it is `strip_place`. Assumes nothing.
 use mathlib.Core.Path.{ap, _∙_}
 use lib.ListN.{length}
-use Rattle.capi.proofs.AnswerLaws.{strip-slice-0, shows-out}
-use Rattle.capi.specs.Answers.{outPart}
+use Rattle.answers.proofs.AnswerLaws.{strip-slice-0, shows-out}
+use Rattle.answers.specs.Answers.{outPart}
 use Rattle.capi.proofs.navorzim_strip.Statement.{statement}
 use Rattle.capi.proofs.navorzim_strip.Tie as tie
 

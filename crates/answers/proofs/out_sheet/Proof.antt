@@ -1,13 +1,13 @@
--- `capi::out_sheet` meets its contract, by cases on what the family call answered. Assumes nothing.
+-- `answers::out_sheet` meets its contract, by cases on what the family call answered. Assumes nothing.
 use mathlib.Core.Path.{sym, ap, ap₂, _∙_}
 use Prim.Native.Nat.{ℕ}
 use borrow.Author.Needs.{needs}
-use Rattle.capi.specs.Answers.{outSheet}
-use Rattle.capi.specs.declared.OutSheet.{OutSheet}
+use Rattle.answers.specs.Answers.{outSheet}
+use Rattle.answers.specs.declared.OutSheet.{OutSheet}
 use Rattle.families.specs.FamilySheets.{asWritten}
 use Rattle.families.specs.declared.Written.{Written}
-use Rattle.capi.proofs.out_sheet.Statement.{statement}
-use Rattle.capi.proofs.out_sheet.Tie as tie
+use Rattle.answers.proofs.out_sheet.Statement.{statement}
+use Rattle.answers.proofs.out_sheet.Tie as tie
 
 enum-known-written : tie.Need-enum-known-written
 enum-known-written c = search needs

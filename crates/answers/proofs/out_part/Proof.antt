@@ -1,10 +1,10 @@
--- `capi::out_part` meets its contract, by which slice the part lies in. Assumes nothing.
+-- `answers::out_part` meets its contract, by which slice the part lies in. Assumes nothing.
 use mathlib.Core.Path.{sym, ap}
 use mathlib.Core.Bool.{Bool, cond}
-use Rattle.capi.specs.declared.OutPart.{OutPart}
+use Rattle.answers.specs.declared.OutPart.{OutPart}
 use Rattle.views.specs.declared.Part.{Part}
-use Rattle.capi.proofs.out_part.Statement.{statement}
-use Rattle.capi.proofs.out_part.Tie as tie
+use Rattle.answers.proofs.out_part.Statement.{statement}
+use Rattle.answers.proofs.out_part.Tie as tie
 
 -- What goes out where the part lies in the spare strip or not
 abbrev by-slice : Part → Bool → OutPart

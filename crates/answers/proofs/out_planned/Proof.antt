@@ -1,15 +1,15 @@
--- `capi::out_planned` meets its contract, by cases on what planning answered. Assumes nothing.
+-- `answers::out_planned` meets its contract, by cases on what planning answered. Assumes nothing.
 use mathlib.Core.Path.{sym, ap, ap₂, subst, _∙_}
 use Prim.Native.Nat.{ℕ}
 use native.Mathlib.Nat.{mod-eq-of-lt}
 use borrow.Author.Needs.{needs}
-use Rattle.capi.specs.Answers.{outPlanned}
-use Rattle.capi.specs.InnerFits.{PatternFits}
-use Rattle.capi.specs.declared.OutPlanned.{OutPlanned}
+use Rattle.answers.specs.Answers.{outPlanned}
+use Rattle.answers.specs.InnerFits.{PatternFits}
+use Rattle.answers.specs.declared.OutPlanned.{OutPlanned}
 use Rattle.planner.specs.Planning.{asPlanned}
 use Rattle.planner.specs.declared.Planned.{Planned}
-use Rattle.capi.proofs.out_planned.Statement.{statement}
-use Rattle.capi.proofs.out_planned.Tie as tie
+use Rattle.answers.proofs.out_planned.Statement.{statement}
+use Rattle.answers.proofs.out_planned.Tie as tie
 
 enum-known-planned : tie.Need-enum-known-planned
 enum-known-planned c = search needs

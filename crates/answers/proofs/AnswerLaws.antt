@@ -5,13 +5,13 @@ use mathlib.Core.List.{List}
 use mathlib.Core.Logic.{_↔_}
 use Prim.Native.Nat.{ℕ}
 use lib.Dec.{eqb}
-use Rattle.capi.proofs.NumberLaws.{number-not-0}
-use Rattle.capi.specs.Answers.{outVerdict, outCode, outSheet, outChecked, outPart, partBy}
-use Rattle.capi.specs.declared.OutChecked.{OutChecked}
-use Rattle.capi.specs.declared.OutCode.{OutCode}
-use Rattle.capi.specs.declared.OutPart.{OutPart}
-use Rattle.capi.specs.declared.OutSheet.{OutSheet}
-use Rattle.capi.specs.declared.OutVerdict.{OutVerdict}
+use Rattle.answers.proofs.NumberLaws.{number-not-0}
+use Rattle.answers.specs.Answers.{outVerdict, outCode, outSheet, outChecked, outPart, partBy}
+use Rattle.answers.specs.declared.OutChecked.{OutChecked}
+use Rattle.answers.specs.declared.OutCode.{OutCode}
+use Rattle.answers.specs.declared.OutPart.{OutPart}
+use Rattle.answers.specs.declared.OutSheet.{OutSheet}
+use Rattle.answers.specs.declared.OutVerdict.{OutVerdict}
 use Rattle.codes.specs.Layouts.{symbolsOf}
 use Rattle.plans.specs.Check.{asChecked}
 use Rattle.plans.specs.declared.Checked.{Checked}

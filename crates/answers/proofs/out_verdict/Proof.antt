@@ -1,13 +1,13 @@
--- `capi::out_verdict` meets its contract, by cases on the verdict. Assumes nothing.
+-- `answers::out_verdict` meets its contract, by cases on the verdict. Assumes nothing.
 use mathlib.Core.Path.{sym, ap, ap₂, _∙_}
 use Prim.Native.Nat.{ℕ}
 use borrow.Author.Needs.{needs}
-use Rattle.capi.specs.Answers.{outVerdict}
-use Rattle.capi.specs.declared.OutVerdict.{OutVerdict}
+use Rattle.answers.specs.Answers.{outVerdict}
+use Rattle.answers.specs.declared.OutVerdict.{OutVerdict}
 use Rattle.refusals.specs.Orders.{outcome}
 use Rattle.refusals.specs.declared.Verdict.{Verdict}
-use Rattle.capi.proofs.out_verdict.Statement.{statement}
-use Rattle.capi.proofs.out_verdict.Tie as tie
+use Rattle.answers.proofs.out_verdict.Statement.{statement}
+use Rattle.answers.proofs.out_verdict.Tie as tie
 
 enum-told : tie.Need-enum-told
 enum-told c = search needs

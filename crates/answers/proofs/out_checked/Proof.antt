@@ -1,13 +1,13 @@
--- `capi::out_checked` meets its contract, by cases on what checking answered. Assumes nothing.
+-- `answers::out_checked` meets its contract, by cases on what checking answered. Assumes nothing.
 use mathlib.Core.Path.{sym, ap, ap₂, _∙_}
 use Prim.Native.Nat.{ℕ}
 use borrow.Author.Needs.{needs}
-use Rattle.capi.specs.Answers.{outChecked}
-use Rattle.capi.specs.declared.OutChecked.{OutChecked}
+use Rattle.answers.specs.Answers.{outChecked}
+use Rattle.answers.specs.declared.OutChecked.{OutChecked}
 use Rattle.plans.specs.Check.{asChecked}
 use Rattle.plans.specs.declared.Checked.{Checked}
-use Rattle.capi.proofs.out_checked.Statement.{statement}
-use Rattle.capi.proofs.out_checked.Tie as tie
+use Rattle.answers.proofs.out_checked.Statement.{statement}
+use Rattle.answers.proofs.out_checked.Tie as tie
 
 enum-known-checked : tie.Need-enum-known-checked
 enum-known-checked c = search needs

@@ -1,0 +1,3 @@
+mod NumberLaws
+pub mod AnswerLaws
+pub mod PlanLaws

@@ -1,3 +1,0 @@
-mod NumberLaws
-mod AnswerLaws
-mod PlanLaws
