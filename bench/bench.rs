@@ -1,5 +1,5 @@
-//! The proved library against simple Rust doing the identical work, and against Jerasure and ISA-L rebuilding the same disk, in turn, in one
-//! process. Medians of 101 rounds.
+//! The proved library against simple Rust doing the identical work, and against Jerasure, ISA-L and one pass in C rebuilding the same disk, in
+//! turn, in one process. Medians of 101 rounds. With `--check` only what a landing must keep.
 use std::hint::black_box;
 use std::time::Instant;
 
@@ -121,6 +121,34 @@ mod jerasure {
     }
 }
 
+/// For each lost symbol of an edition 1 plan its sources.
+fn sums(plan: &[u8]) -> Vec<(usize, Vec<u8>)> {
+    let mut sums: Vec<(usize, Vec<u8>)> = Vec::new();
+    for step in plan[9..].chunks_exact(3) {
+        match sums.last_mut() {
+            Some((target, sources)) if *target == step[1] as usize => sources.push(step[2]),
+            _ => sums.push((step[1] as usize, vec![step[2]])),
+        }
+    }
+    sums
+}
+
+/// One pass in C for each lost symbol of a plan (kernel.c). It tests nothing.
+mod kernel {
+    extern "C" {
+        fn kernel_sum(stripe: *mut u8, size: usize, target: usize, sources: *const u8, count: usize);
+    }
+
+    pub fn rebuild(sums: &[(usize, Vec<u8>)], size: usize, stripe: &mut [u8]) -> u64 {
+        for (target, sources) in sums {
+            assert!(sources.iter().all(|&s| s as usize != *target && (s as usize + 1) * size <= stripe.len()) && (target + 1) * size <= stripe.len());
+            // SAFETY: target and sources are symbols of the stripe, and the target is none of the sources.
+            unsafe { kernel_sum(stripe.as_mut_ptr(), size, *target, sources.as_ptr(), sources.len()) };
+        }
+        0
+    }
+}
+
 /// ISA-L's XOR of several sources, once for each lost symbol of a plan. It tests nothing.
 #[cfg(isal)]
 mod isal {
@@ -130,26 +158,14 @@ mod isal {
         fn xor_gen(vects: c_int, len: c_int, array: *mut *mut c_void) -> c_int;
     }
 
-    /// For each lost symbol its sources.
-    pub fn sums(plan: &[u8]) -> Vec<(usize, Vec<usize>)> {
-        let mut sums: Vec<(usize, Vec<usize>)> = Vec::new();
-        for step in plan[9..].chunks_exact(3) {
-            match sums.last_mut() {
-                Some((target, sources)) if *target == step[1] as usize => sources.push(step[2] as usize),
-                _ => sums.push((step[1] as usize, vec![step[2] as usize])),
-            }
-        }
-        sums
-    }
-
     /// Each lost symbol from its sources; the stripe begins at a multiple of 32, and so does every symbol.
-    pub fn rebuild(sums: &[(usize, Vec<usize>)], size: usize, stripe: &mut [u8]) -> u64 {
+    pub fn rebuild(sums: &[(usize, Vec<u8>)], size: usize, stripe: &mut [u8]) -> u64 {
         let start = stripe.as_mut_ptr();
         assert!(start as usize % 32 == 0 && size % 32 == 0);
         let mut failed = 0;
         for (target, sources) in sums {
             let mut array = [std::ptr::null_mut(); 64];
-            for (place, s) in array.iter_mut().zip(sources.iter().chain([target])) {
+            for (place, s) in array.iter_mut().zip(sources.iter().map(|&s| s as usize).chain([*target])) {
                 *place = stripe[s * size..(s + 1) * size].as_mut_ptr().cast::<c_void>();
             }
             // SAFETY: the vectors are symbols of the stripe, `size` bytes each, and the last is none of the others.
@@ -196,12 +212,9 @@ mod simple {
         for (s, row) in rows.iter_mut().take(symbols).enumerate() {
             *row = u64::from_le_bytes(sheet[6 + 8 * s..14 + 8 * s].try_into().unwrap());
         }
-        for row in &rows[..symbols] {
-            for bit in k..64 {
-                if row >> bit & 1 == 1 {
-                    return Err(6);
-                }
-            }
+        let beyond = if k < 64 { !0 << k } else { 0 };
+        if rows[..symbols].iter().any(|row| row & beyond != 0) {
+            return Err(6);
         }
         Ok(Code { n, r, k, rows })
     }
@@ -490,9 +503,10 @@ fn interleaved(calls: usize, mut ours: impl FnMut() -> u64, mut theirs: impl FnM
     (median(&mut a), median(&mut b))
 }
 
-/// One line of the table: microseconds of both sides, and the ratio.
-fn row(what: &str, other: &str, (ours, theirs): (f64, f64)) {
+/// One line of the table: microseconds of both sides, and the ratio, which it answers.
+fn row(what: &str, other: &str, (ours, theirs): (f64, f64)) -> f64 {
     println!("| {what} | {other} | {:.1} | {:.1} | {:.2} |", ours / 1000.0, theirs / 1000.0, ours / theirs);
+    ours / theirs
 }
 
 /// A stripe that begins at a multiple of 64, as ISA-L asks.
@@ -515,7 +529,8 @@ impl Aligned {
     }
 }
 
-fn encoding(sheet: &[u8], size: usize) {
+/// The line of encoding, and its ratio to simple Rust.
+fn encoding(sheet: &[u8], size: usize) -> f64 {
     let contents: Vec<u8> = (0..25 * size).map(|i| (i * 7 + i / 251) as u8).collect();
     let (mut ours, mut theirs) = (vec![1u8; 35 * size], vec![2u8; 35 * size]);
     assert_eq!(proved::encode(sheet, size, &contents, &mut ours), 0);
@@ -527,7 +542,7 @@ fn encoding(sheet: &[u8], size: usize) {
         || proved::encode(sheet, size, &contents, &mut ours),
         || simple::encode(sheet, size, &contents, &mut theirs),
     );
-    row(&format!("encode, L {size}"), "simple Rust", times);
+    row(&format!("encode, L {size}"), "simple Rust", times)
 }
 
 fn planning(what: &str, sheet: &[u8], answer: u64) {
@@ -539,7 +554,8 @@ fn planning(what: &str, sheet: &[u8], answer: u64) {
     row(&format!("plan, {what}"), "simple Rust", interleaved(100, || proved::plan(sheet, 0, &mut ours), theirs));
 }
 
-fn rebuilding(sheet: &[u8], plan: &[u8], size: usize) {
+/// The lines of rebuilding, and its ratio to simple Rust.
+fn rebuilding(sheet: &[u8], plan: &[u8], size: usize) -> f64 {
     let contents: Vec<u8> = (0..25 * size).map(|i| (i * 11 + i / 239) as u8).collect();
     let mut stripe = vec![0u8; 35 * size];
     assert_eq!(simple::encode(sheet, size, &contents, &mut stripe), 0);
@@ -552,34 +568,48 @@ fn rebuilding(sheet: &[u8], plan: &[u8], size: usize) {
         assert_eq!((proved::rebuild(sheet, 0, plan, size, ours.stripe()), work(theirs.stripe())), (0, 0));
         assert!(ours.stripe() == stripe && theirs.stripe() == stripe, "a rebuild is wrong: {other}");
         let times = interleaved(calls, || proved::rebuild(sheet, 0, plan, size, ours.stripe()), || work(theirs.stripe()));
-        row(&what, other, times);
+        row(&what, other, times)
     };
-    against("simple Rust", &mut |stripe| simple::rebuild(sheet, 0, plan, size, stripe));
+    let ratio = against("simple Rust", &mut |stripe| simple::rebuild(sheet, 0, plan, size, stripe));
     #[cfg(jerasure)]
     if size % 8 == 0 {
         let decoder = jerasure::Decoder::new();
         against("Jerasure, cached schedule, no test", &mut |stripe| decoder.rebuild(size, stripe));
     }
+    let sums = sums(plan);
     #[cfg(isal)]
     if size % 32 == 0 {
-        let sums = isal::sums(plan);
         against("ISA-L xor_gen, no test", &mut |stripe| isal::rebuild(&sums, size, stripe));
     }
+    against("one pass a lost symbol in C, gcc -O3, SSE2, no test", &mut |stripe| kernel::rebuild(&sums, size, stripe));
+    ratio
+}
+
+/// The loops over bytes are fast only where the compiler makes one of its own for each number of sources. It says nothing where it doesn't, so
+/// this does: the lines at L 4,096, and whether both are within their bounds.
+fn check(sheet: &[u8], plan: &[u8]) -> bool {
+    let (encode, rebuild) = (encoding(sheet, 4096), rebuilding(sheet, plan, 4096));
+    for (what, ratio, bound) in [("encode", encode, 0.9), ("rebuild", rebuild, 0.8)] {
+        println!("{what} at L 4096 takes {ratio:.2} of simple Rust, {} {bound}", if ratio <= bound { "within" } else { "ABOVE" });
+    }
+    encode <= 0.9 && rebuild <= 0.8
 }
 
 fn main() {
-    let sheet = liberation_sheet(5, 5);
-    let sizes = [1usize, 64, 4096, 65536];
+    let (sheet, plan) = (liberation_sheet(5, 5), plan_with_20_reads());
+    assert_eq!((proved::check(&sheet, 0, &plan), simple::check(&sheet, 0, &plan)), (1020, 1020));
+    let sizes = [1usize, 64, 1024, 4096, 65536];
     println!("| call | against | proved, µs | other, µs | ratio |");
     println!("|---|---|---|---|---|");
+    if std::env::args().any(|word| word == "--check") {
+        std::process::exit(i32::from(!check(&sheet, &plan)));
+    }
     for size in sizes {
         encoding(&sheet, size);
     }
     planning("N 64, K 64", &dense_plannable_sheet(), 1032);
     planning("N 64, K 64, none exists", &dense_sheet(), 999);
     planning("Liberation w 7, k 7", &liberation_sheet(7, 7), 1049);
-    let plan = plan_with_20_reads();
-    assert_eq!((proved::check(&sheet, 0, &plan), simple::check(&sheet, 0, &plan)), (1020, 1020));
     let times = interleaved(1000, || proved::check(&sheet, 0, black_box(&plan)), || simple::check(&sheet, 0, black_box(&plan)));
     row("check, 28 steps", "simple Rust", times);
     for size in sizes {

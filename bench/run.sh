@@ -1,14 +1,16 @@
 #!/bin/sh
-# Encoding, planning, checking and rebuilding against simple Rust and, where Debian's libjerasure-dev and libisal-dev are installed, against
-# Jerasure and ISA-L, interleaved in one process. Prints the table of docs/PERFORMANCE.md: sh bench/run.sh
+# Encoding, planning, checking and rebuilding against simple Rust, against one pass in C and, where Debian's libjerasure-dev and libisal-dev are
+# installed, against Jerasure and ISA-L, interleaved in one process. Prints the table of docs/PERFORMANCE.md: sh bench/run.sh
+# With --check it ends with status 1 where rebuilding takes more than 0.8 of simple Rust at L 4,096, or encoding more than 0.9: for each landing.
 set -eu
 cd "$(dirname "$0")/.."
 room=$(mktemp -d)
 trap 'rm -rf "$room"' EXIT
 rt staticlib capi >"$room/log" 2>&1 || { cat "$room/log"; exit 1; }
+gcc -O3 -c bench/kernel.c -o "$room/kernel.o"
 others=
 if [ -e /usr/include/jerasure.h ]; then others="$others --cfg jerasure -l Jerasure"; fi
 if [ -e /usr/include/isa-l.h ]; then others="$others --cfg isal -l isal"; fi
 # shellcheck disable=SC2086
-rustc --edition 2021 -O bench/bench.rs --check-cfg 'cfg(jerasure, isal)' $others -L target/staticlib -l static=capi -o "$room/bench"
-"$room/bench"
+rustc --edition 2021 -O bench/bench.rs --check-cfg 'cfg(jerasure, isal)' $others -C link-arg="$room/kernel.o" -L target/staticlib -l static=capi -o "$room/bench"
+"$room/bench" "$@"

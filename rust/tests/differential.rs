@@ -561,6 +561,47 @@ fn the_longest_plan() {
     assert_eq!(navorzim::plan_into(&sheet, 0, &mut buffer[..3081]), Ok(Planned::Plan { length: 3081, reads: 32 }));
 }
 
+/// The five ways in which `sums_of_every_length` brings its lost symbols back: the steps for symbol m, the sum of the first m data symbols.
+/// The survivors are 21 to 40, the data symbols, and 41, which is zero.
+fn ways_to_sum() -> Vec<Vec<[u8; 3]>> {
+    let adds = |m: u8, from: u8| (from..m).map(move |t| [2, m, 21 + t]);
+    let copies = (0..21).flat_map(|m| [if m == 0 { [0, 0, 0] } else { [1, m, 21] }].into_iter().chain(adds(m, 1)));
+    let clears = (0..21).flat_map(|m| [[0, m, 0]].into_iter().chain(adds(m, 0)));
+    let zeros = (0..21).flat_map(|m| [[1, m, 41]].into_iter().chain(adds(m, 0)));
+    let one_by_one = (0..21).map(|m| [0, m, 0]).chain((0..20).flat_map(|t| (t + 1..21).map(move |m| [2, m, 21 + t])));
+    let from_each_other = (0..21).flat_map(|m| if m == 0 { vec![[0, 0, 0]] } else { vec![[1, m, m - 1], [2, m, 20 + m], [2, m, 41], [2, m, 0]] });
+    vec![copies.collect(), clears.collect(), zeros.collect(), one_by_one.collect(), from_each_other.collect()]
+}
+
+/// Sums of 0 to 20 symbols, encoded and rebuilt: begun by a clear, a copy or an add, in one run or broken by steps of other targets, at
+/// lengths around those that a processor takes in one go.
+#[test]
+fn sums_of_every_length() {
+    let rows = (0..42).map(|s| (0..20).map(|t| if s < 21 { t < s } else { t + 21 == s }).collect()).collect();
+    let code = model::Code { disks: 2, height: 21, data: 20, rows };
+    let (sheet, mut random) = (code.sheet(), Random::new(9));
+    let plans = ways_to_sum().into_iter().map(|steps| {
+        let read: std::collections::BTreeSet<u8> = steps.iter().filter(|step| step[0] > 0 && step[2] >= 21).map(|step| step[2]).collect();
+        let mut plan = vec![6, 1, 2, 21, 20, 0, read.len() as u8];
+        plan.extend((steps.len() as u16).to_le_bytes());
+        plan.extend(steps.concat());
+        plan
+    });
+    let plans: Vec<Vec<u8>> = plans.collect();
+    for size in (1..70).chain(126..131).chain([255, 256, 257, 1023, 1024, 1025, 4095, 4096, 4097]) {
+        let data = random.bytes(20 * size);
+        let whole = model::scatter(&code, size, &data);
+        let mut stripe = random.bytes(42 * size);
+        assert_eq!(navorzim::encode(&sheet, size as u64, &data, &mut stripe), Ok(()));
+        assert!(stripe == whole, "encoded, L {size}");
+        for (way, plan) in plans.iter().enumerate() {
+            stripe[..21 * size].copy_from_slice(&random.bytes(21 * size));
+            assert_eq!(told(navorzim::rebuild(&sheet, 0, plan, size as u64, &mut stripe)), Ok(()), "way {way}");
+            assert!(stripe == whole, "way {way}, L {size}");
+        }
+    }
+}
+
 /// The limits' far ends: N 64, K 64, r 32, n 64, L 65,536.
 #[test]
 fn limits() {

@@ -1,21 +1,21 @@
 -- Laws of the lowest element in which two sets differ: where it lies, what stands there and below it, and how many zeros lead to it. Assumes nothing.
 use mathlib.Core.Path.{_≡_, refl, sym, ap, _∙_}
-use mathlib.Core.Bool.{Bool, true, false, cond, not, true≢false}
-use Prim.Native.Nat.{ℕ, zero, suc, _+_, _/_, _%_, _^_, _≤_, _<_}
-use native.Mathlib.Nat.{add-zero, div-one, div-div-eq-div-mul, pow-suc, le-refl}
+use mathlib.Core.Bool.{Bool, true, false, cond, not, _&&_, true≢false}
+use Prim.Native.Nat.{ℕ, zero, suc, _+_, _-_, _/_, _%_, _^_, _≤_, _<_}
+use native.Mathlib.Nat.{add-zero, zero-add, div-one, div-div-eq-div-mul, pow-suc, le-refl}
 use native.Mathlib.Omega.{arith}
 use native.Mathlib.Decide.{decLt}
-use lib.Bits.{bitXor, xor-self}
+use lib.Bits.{bitAnd, bitXor, xor-self}
 use lib.Count.{trailingZeros, under, trailing-le}
 use lib.Dec.{eqb, ltb}
 use borrow.Author.Tests.{lt-ltb, le-ltb, ltb-true, eqb-true, eqb-false, ne-eqb}
 use mir.Syntax.{w64}
 use mir.Val.{Fits}
-use Rattle.bits.specs.BitSets.{has, overlap}
+use Rattle.bits.specs.BitSets.{has, below, overlap}
 use Rattle.bits.specs.Lists.{firstFrom}
 use Rattle.bits.specs.Numerals.{setWidth, firstDifference}
-use Rattle.bits.proofs.SearchLaws.{firstFrom-none, firstFrom-holds, none-before-firstFrom, none-if-firstFrom-behind, firstFrom-of-fewer}
-use Rattle.bits.proofs.SetLaws.{has-empty, has-sum, has-by-overlap, unit-alike-if-same-bit, equal-if-same-bits}
+use Rattle.bits.proofs.SearchLaws.{firstFrom-none, firstFrom-holds, none-before-firstFrom, none-if-firstFrom-behind, firstFrom-of-fewer, firstFrom-passes, firstFrom-alike}
+use Rattle.bits.proofs.SetLaws.{has-empty, has-sum, has-common, has-below, has-by-overlap, unit-alike-if-same-bit, equal-if-same-bits}
 use Rattle.bits.proofs.XorLaws.{low-bit-cases}
 
 -- ------------------------------------------------------------------
@@ -124,3 +124,37 @@ module _ (width a b : ℕ) (fits : width ≤ setWidth) (a-below : a < 2 ^ width)
       let bit = firstDifference a b in
       let same : has a bit ≡ has b bit = has-by-overlap a bit ∙ ap (λ (x : ℕ). eqb x 1) alike ∙ sym (has-by-overlap b bit) in
       true≢false (sym (firstFrom-holds (has (bitXor a b)) setWidth 0 (omega (arith, difference-below))) ∙ sum-lacks-if-same a b bit same)
+
+-- ------------------------------------------------------------------
+-- The lowest element from a bound on
+
+-- A set and its part below a bound differ in what the set has from the bound on
+pub lowest-from-bound : (set bound : ℕ) → bound ≤ setWidth → firstDifference set (bitAnd set (below bound)) ≡ firstFrom (has set) bound (setWidth - bound)
+unfolding firstDifference
+lowest-from-bound set bound fits =
+    let all : bound + (setWidth - bound) ≡ setWidth = omega arith in
+    ap (firstFrom test 0) (sym all)
+    ∙ firstFrom-passes test bound (setWidth - bound) 0 (λ j a b. here j ∙ ap (λ (low : Bool). rest low (has set j)) (lt-ltb j bound (omega arith)) ∙ none (has set j))
+    ∙ ap (λ (n : ℕ). firstFrom test n (setWidth - bound)) (zero-add bound)
+    ∙ firstFrom-alike test (has set) (setWidth - bound) bound
+    (λ j a. here j ∙ ap (λ (low : Bool). rest low (has set j)) (le-ltb j bound a) ∙ same (has set j))
+  where
+    test : ℕ → Bool
+    test = has (bitXor set (bitAnd set (below bound)))
+
+    -- What the two differ in, by whether the element lies below the bound and whether the set has it
+    rest : Bool → Bool → Bool
+    rest low held = cond (held && low) (not held) held
+
+    here : (j : ℕ) → test j ≡ rest (ltb j bound) (has set j)
+    here j =
+        has-sum set (bitAnd set (below bound)) j
+        ∙ ap (λ (both : Bool). cond both (not (has set j)) (has set j)) (has-common set (below bound) j ∙ ap (λ (low : Bool). has set j && low) (has-below bound j))
+
+    none : (held : Bool) → rest true held ≡ false
+    none true = refl
+    none false = refl
+
+    same : (held : Bool) → rest false held ≡ held
+    same true = refl
+    same false = refl

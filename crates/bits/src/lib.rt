@@ -2,11 +2,12 @@
 // A set's word is known here alone: code above uses these functions, and contracts speak of the set's number.
 ghost use mathlib.Core.Path.{_≡_};
 ghost use mathlib.Core.Bool.{not};
-ghost use Prim.Native.Nat.{_*_, _/_, _%_, _^_, _≤_, _<_};
+ghost use Prim.Native.Nat.{_-_, _*_, _/_, _%_, _^_, _≤_, _<_};
 ghost use lib.Bits.{bitAnd, bitOr, bitXor};
 ghost use lib.Dec.{eqb, ltb};
 ghost use lib.ListN.{replicate};
 ghost use Rattle.bits.specs.BitSets.{has, with, below, count, overlap};
+ghost use Rattle.bits.specs.Lists.{firstFrom};
 ghost use Rattle.bits.specs.Numerals.{setWidth, numeral, numerals, firstDifference};
 
 // A row of a code, a set of symbols or a pattern: bit 0 is the lowest.
@@ -124,6 +125,14 @@ pub fn union(a: BitSet, b: BitSet) -> BitSet
     BitSet {
         word: a.word | b.word,
     }
+}
+
+// The lowest element from a bound on; SET_WIDTH where there is none.
+pub fn lowest_from(set: BitSet, bound: usize) -> usize
+    requires { ⌜ bound ≤ setWidth ⌝ }
+    ensures { λ r. ⌜ r ≡ firstFrom (has (numeral set)) bound (setWidth - bound) ⌝ }
+{
+    first_difference(set, common(set, below(bound)))
 }
 
 // Whether two sets share an odd number of elements.

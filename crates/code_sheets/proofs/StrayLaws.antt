@@ -1,5 +1,5 @@
 -- Laws of stray bits by place. Assumes nothing.
-use mathlib.Core.Path.{_≡_, subst}
+use mathlib.Core.Path.{_≡_, _∙_, subst}
 use mathlib.Core.List.{List}
 use mathlib.Core.Bool.{false}
 use Prim.Native.Nat.{ℕ, _+_, _-_, _*_, _/_, _%_, _≤_, _<_}
@@ -27,15 +27,18 @@ module _ (rows : List ℕ) (dataSymbols row bit : ℕ) (in-row : bit < 64) where
   unfolding strayAt
   strayAt-low h = simp (row-of-place row bit in-row, bit-of-place row bit in-row, lt-leb dataSymbols bit h)
 
--- The search may begin each row at bit K
-pub skip-low-bits : (rows : List ℕ) (dataSymbols row : ℕ) → dataSymbols ≤ 64
-    → ((j : ℕ) → j < row * 64 → strayAt rows dataSymbols j ≡ false)
-    → (j : ℕ) → j < row * 64 + dataSymbols → strayAt rows dataSymbols j ≡ false
-skip-low-bits rows dataSymbols row fits none j l = by-row (decLt j (row * 64))
+-- Where the rows before one have no stray bit, and it has none from K up to a bit, no place of theirs and of it before that bit is stray
+pub none-stray-before : (rows : List ℕ) (dataSymbols row upTo : ℕ) → ((j : ℕ) → j < row * 64 → strayAt rows dataSymbols j ≡ false)
+    → ((bit : ℕ) → dataSymbols ≤ bit → bit < upTo → has (getD rows row 0) bit ≡ false)
+    → (j : ℕ) → j < row * 64 + upTo → j < row * 64 + 64 → strayAt rows dataSymbols j ≡ false
+none-stray-before rows dataSymbols row upTo before lacks j l in-row = by-row (decLt j (row * 64))
   where
+    by-bit : (bit : ℕ) → bit < upTo → bit < 64 → Dec (bit < dataSymbols) → strayAt rows dataSymbols (row * 64 + bit) ≡ false
+    by-bit bit h below (yes low) = strayAt-low rows dataSymbols row bit below low
+    by-bit bit h below (no high) = strayAt-high rows dataSymbols row bit below (omega arith) ∙ lacks bit (omega arith) h
+
     by-row : Dec (j < row * 64) → strayAt rows dataSymbols j ≡ false
-    by-row (yes before) = none j before
-    by-row (no here) =
+    by-row (yes h) = before j h
+    by-row (no h) =
         let place : row * 64 + (j - row * 64) ≡ j = omega arith in
-        subst (λ (i : ℕ). strayAt rows dataSymbols i ≡ false) place
-        (strayAt-low rows dataSymbols row (j - row * 64) (omega arith) (omega arith))
+        subst (λ (i : ℕ). strayAt rows dataSymbols i ≡ false) place (by-bit (j - row * 64) (omega arith) (omega arith) (decLt (j - row * 64) dataSymbols))

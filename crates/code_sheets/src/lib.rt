@@ -12,6 +12,7 @@ use bits::BitSet;
 use bits::BitSets;
 use bits::empty_sets;
 use bits::has;
+use bits::lowest_from;
 use bits::of_word;
 use codes::Code;
 use codes::Layout;
@@ -143,7 +144,7 @@ fn first_stray(rows: BitSets, symbols: usize, data_symbols: usize) -> usize
     let mut place = symbols * 64;
     'search: while row < symbols {
         let bits = rows[row];
-        let mut bit = data_symbols;
+        let mut bit = lowest_from(bits, data_symbols); // 64 in a row without a stray bit
         while bit < 64 {
             if has(bits, bit) {
                 place = row * 64 + bit;

@@ -1,52 +1,16 @@
--- Laws of the loops over data symbols and over symbols. Assumes nothing.
+-- Laws of the loop over symbols. Assumes nothing.
 use mathlib.Core.Path.{_≡_, sym, ap, ap₂, _∙_}
-use mathlib.Core.Bool.{Bool, true, false, cond}
 use mathlib.Core.List.{List, [], _∷_, _++_, append-nil, append-assoc}
 use Prim.Native.Nat.{ℕ, _+_, _-_, _*_, _≤_, _<_}
 use native.Mathlib.Nat.{mul-le-mul-right, zero-mul}
 use native.Mathlib.Numerals.{add-one}
 use native.Mathlib.Omega.{arith}
-use lib.ListN.{length, getD, take, drop, replicate, drop-of-length-le, length-append, length-drop}
+use lib.ListN.{length, getD, take, drop, drop-of-length-le, length-append, length-drop}
 use lib.Seq.{length-take-le, take-at, drop-at, drop-drop, take-suc}
 use borrow.Rule.Slice.PartMut.{putMid}
-use Rattle.bits.specs.BitSets.{has}
 use Rattle.bits.specs.Numerals.{setWidth}
-use Rattle.gf2.proofs.SymbolLaws.{part-length, part-is-symbol, length-encodedSymbol, length-encoding}
-use Rattle.gf2.specs.Stripes.{symbol, xorBytes, encodedSymbol, encoding}
-
--- What holds of the target before each turn: it has L bytes and is the sum of the data symbols passed
-abbrev pub SummedSoFar : ℕ → ℕ → List ℕ → ℕ → List ℕ → ℕ → Type 0
-SummedSoFar dataSymbols size bytes row target t =
-    (t ≤ dataSymbols) × (length target ≡ size) × (target ≡ encodedSymbol size bytes row t)
-
-pub summed-so-far : (dataSymbols size : ℕ) (bytes : List ℕ) (row : ℕ) (target : List ℕ) (t : ℕ) → length bytes ≡ dataSymbols * size
-    → t ≤ dataSymbols → target ≡ encodedSymbol size bytes row t → SummedSoFar dataSymbols size bytes row target t
-summed-so-far dataSymbols size bytes row target t e h sum =
-    (h, ap length sum ∙ length-encodedSymbol size bytes row t (omega (arith, mul-le-mul-right size h)), sum)
-
-module _ (size : ℕ) (bytes : List ℕ) (row : ℕ) where
-  -- No data symbol: zero bytes
-  pub encodedSymbol-none : (target : List ℕ) → length target ≡ size → replicate (length target) 0 ≡ encodedSymbol size bytes row 0
-  unfolding encodedSymbol
-  encodedSymbol-none target e = ap (λ (n : ℕ). replicate n 0) e
-
-  by-bit : (t : ℕ) (bit : Bool) → has row t ≡ bit
-      → cond bit (xorBytes (encodedSymbol size bytes row t) (symbol size bytes t)) (encodedSymbol size bytes row t)
-      ≡ encodedSymbol size bytes row (t + 1)
-  unfolding encodedSymbol
-  by-bit t bit e =
-      ap (λ (b : Bool). cond b (xorBytes (encodedSymbol size bytes row t) (symbol size bytes t)) (encodedSymbol size bytes row t)) (sym e)
-      ∙ ap (encodedSymbol size bytes row) (sym (add-one t))
-
-  -- A data symbol whose bit the row has is added
-  pub encodedSymbol-has : (t : ℕ) (old new : List ℕ) → has row t ≡ true → old ≡ encodedSymbol size bytes row t
-      → new ≡ xorBytes old (take ((t + 1) * size - t * size) (drop (t * size) bytes)) → new ≡ encodedSymbol size bytes row (t + 1)
-  encodedSymbol-has t old new bit e f = f ∙ ap₂ xorBytes e (part-is-symbol bytes t size) ∙ by-bit t true bit
-
-  -- One whose bit it lacks is not
-  pub encodedSymbol-lacks : (t : ℕ) (old : List ℕ) → has row t ≡ false → old ≡ encodedSymbol size bytes row t
-      → old ≡ encodedSymbol size bytes row (t + 1)
-  encodedSymbol-lacks t old bit e = e ∙ by-bit t false bit
+use Rattle.gf2.proofs.SymbolLaws.{part-length, length-encoding}
+use Rattle.gf2.specs.Stripes.{encodedSymbol, encoding}
 
 -- ------------------------------------------------------------------
 -- Symbol after symbol

@@ -1,3 +1,4 @@
-pub mod ByteLoopLaws
+pub mod GatherLaws
+pub mod PassLaws
 pub mod EncodingLaws
 pub mod CallLaws

@@ -1,2 +1,3 @@
-pub mod SymbolLoopLaws
+pub mod PutLaws
+pub mod PassLaws
 pub mod RunLaws

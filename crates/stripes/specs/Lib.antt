@@ -1,1 +1,2 @@
 pub mod InnerStepsWithin
+pub mod InnerPasses

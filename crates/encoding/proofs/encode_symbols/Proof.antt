@@ -63,7 +63,7 @@ part-encode-symbol-end c =
 encode-symbol-requires : tie.Need-encode-symbol-requires Inv-loop μ-loop
 encode-symbol-requires c κs =
     let pre = c .before .before .before .before .before .before .pre in
-    (pre .1, pre .2, pre .3, omega arith)
+    (pre .1, pre .3, omega arith)
 
 add-s : tie.Need-add-s Inv-loop μ-loop
 add-s c = omega arith

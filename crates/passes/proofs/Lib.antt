@@ -1,0 +1,4 @@
+pub mod SourceLaws
+pub mod SumLaws
+pub mod SymbolLoopLaws
+pub mod PartLoopLaws
