@@ -23,7 +23,7 @@ placed-requires-5 c κs = tt
 
 returns : tie.Need-returns
 returns c =
-    cc (
+    rw (
       c .before .before .before .before .placed .ensures,
       c .before .before .before .placed2 .ensures,
       c .before .before .placed3 .ensures,

@@ -64,26 +64,26 @@ returns c = rw (c .match .keys1)
 
 returns-2 : tie.Need-returns-2
 unfolding summedByte
-returns-2 c = rw (c .before .match .keys2) (cc)
+returns-2 c = rw (c .before .match .keys2, c .symbol-byte .ensures)
 
 returns-3 : tie.Need-returns-3
 unfolding summedByte
-returns-3 c = rw (c .before .before .match .keys3) (cc)
+returns-3 c = rw (c .before .before .match .keys3, c .symbol-byte3 .ensures, c .before .symbol-byte2 .ensures)
 
 returns-4 : tie.Need-returns-4
 unfolding summedByte
-returns-4 c = rw (c .before .before .before .match .keys4) (cc)
+returns-4 c = rw (c .before .before .before .match .keys4, c .symbol-byte6 .ensures, c .before .symbol-byte5 .ensures, c .before .before .symbol-byte4 .ensures)
 
 returns-5 : tie.Need-returns-5
 unfolding summedByte
-returns-5 c = rw (c .before .before .before .before .match .keys5) (cc)
+returns-5 c = rw (c .before .before .before .before .match .keys5, c .symbol-byte10 .ensures, c .before .symbol-byte9 .ensures, c .before .before .symbol-byte8 .ensures, c .before .before .before .symbol-byte7 .ensures)
 
 returns-6 : tie.Need-returns-6
 unfolding summedByte
 returns-6 c =
     let start = c .before .before .before .before .before .before .before in
     let five : start .args .sources .count ≡ 5 = omega (arith, c .before .before .before .before .before .match .rest, start .pre .0) in
-    rw five (cc)
+    rw (five, c .symbol-byte15 .ensures, c .before .symbol-byte14 .ensures, c .before .before .symbol-byte13 .ensures, c .before .before .before .symbol-byte12 .ensures, c .before .before .before .before .symbol-byte11 .ensures)
 
 pub sum-spec : {M : Type 1} → statement M
 sum-spec =
