@@ -11,7 +11,8 @@ use Rattle.bits.specs.Numerals.{setWidth}
 use Rattle.bits.proofs.SearchLaws.{firstFrom-none, firstFrom-found, firstFrom-holds, firstFrom-between, none-before-firstFrom}
 use Rattle.gf2.specs.Stripes.{symbol, xorBytes, encodedSymbol}
 use Rattle.gf2.proofs.SymbolLaws.{symbol-ends-within}
-use Rattle.passes.specs.Passes.{listed, noSources, withSource, EachWithin, summed}
+use Rattle.passes.specs.InnerSources.{listed, noSources, withSource}
+use Rattle.passes.specs.InnerSums.{summedParts, summed, EachWithin}
 use Rattle.passes.specs.declared.Sources.{Sources}
 use Rattle.passes.proofs.SourceLaws.{listed-with, none-below, with-below}
 use Rattle.encoding.specs.InnerPasses.{DataSymbolFits, PassFits, Gathers}
@@ -195,13 +196,13 @@ encoded-next L bytes row t bit e = ap (λ (b : Bool). cond b (xorBytes (encodedS
 -- The first source is added first
 pub summed-first : (L : ℕ) (bytes first : List ℕ) (s : ℕ) (sources : List ℕ)
     → summed L bytes first (s ∷ sources) ≡ summed L bytes (xorBytes first (symbol L bytes s)) sources
-unfolding summed
+unfolding summedParts
 summed-first L bytes first s sources = refl
 
 -- An encoded symbol is the sum of what the row takes, added to what it takes before
 pub taken-sum : (L : ℕ) (bytes : List ℕ) (row count from : ℕ)
     → summed L bytes (encodedSymbol L bytes row from) (symbolsIn (has row) from count) ≡ encodedSymbol L bytes row (from + count)
-unfolding summed symbolsIn
+unfolding summedParts symbolsIn
 taken-sum L bytes row zero from = ap (encodedSymbol L bytes row) (sym (add-zero from))
 taken-sum L bytes row (suc count) from = by-bit (has row from) refl ∙ taken-sum L bytes row count (suc from) ∙ ap (encodedSymbol L bytes row) (omega arith)
   where

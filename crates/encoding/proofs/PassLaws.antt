@@ -11,7 +11,8 @@ use Rattle.bits.specs.BitSets.{has}
 use Rattle.bits.specs.Lists.{symbolsIn}
 use Rattle.gf2.specs.Stripes.{symbol, xorBytes, encodedSymbol}
 use Rattle.gf2.proofs.SymbolLaws.{length-symbol, length-xorBytes, getD-xorBytes, equal-if-bytes-equal, symbol-fits}
-use Rattle.passes.specs.Passes.{listed, summed}
+use Rattle.passes.specs.InnerSources.{listed}
+use Rattle.passes.specs.InnerSums.{summedParts, summed}
 use Rattle.passes.specs.declared.Sources.{Sources}
 use Rattle.passes.proofs.SumLaws.{length-added, length-summed, summed-append}
 use Rattle.encoding.specs.InnerPasses.{Gathers}
@@ -39,7 +40,7 @@ module _ (row K L : ℕ) (bytes : List ℕ) (whole : length bytes ≡ K * L) whe
 
   -- A row that takes nothing: zero bytes
   pub none-taken : (next : ℕ) → NextOf row K 0 next → next ≡ K → replicate L 0 ≡ encodedSymbol L bytes row K
-  unfolding summed
+  unfolding summedParts
   none-taken next found behind = sym (ap (summed L bytes (replicate L 0)) (found .from-next ∙ taken-behind row K next (omega arith))) ∙ from-zeros
 
   module _ (first next : ℕ) (sources : Sources) (h : first < K) (gathers : Gathers row K (first + 1) sources next) where
@@ -79,5 +80,5 @@ module _ (row K L : ℕ) (bytes : List ℕ) (whole : length bytes ≡ K * L) whe
 
   -- Behind the last
   pub all-passed : (target : List ℕ) (next : ℕ) → K ≤ next → SummedTo row K L bytes target next → target ≡ encodedSymbol L bytes row K
-  unfolding summed
+  unfolding summedParts
   all-passed target next behind so-far = sym (ap (summed L bytes target) (taken-behind row K next behind)) ∙ so-far .completes

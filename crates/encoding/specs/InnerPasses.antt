@@ -6,7 +6,7 @@ use Prim.Native.Nat.{ℕ, _+_, _-_, _*_, _≤_, _<_}
 use Rattle.bits.specs.BitSets.{has}
 use Rattle.bits.specs.Lists.{symbolsIn}
 use Rattle.bits.specs.Numerals.{setWidth}
-use Rattle.passes.specs.Passes.{listed, PlacesBelow}
+use Rattle.passes.specs.InnerSources.{listed, SourcesBelow}
 use Rattle.passes.specs.declared.Sources.{Sources}
 
 -- A number of a data symbol, and the symbol lies within so many bytes
@@ -26,7 +26,7 @@ pub record PassFits (L bytes first : ℕ) (sources : Sources) : Type 0 where
 -- The data symbols of a row from one on are these sources and then those from `next` on, which is one of them or K
 pub record Gathers (row dataSymbols from : ℕ) (sources : Sources) (next : ℕ) : Type 0 where
   pub few : sources .count ≤ 5
-  pub places-below : PlacesBelow dataSymbols sources
+  pub places-below : SourcesBelow dataSymbols sources
   pub next-from : from ≤ next
   pub next-to : next ≤ dataSymbols
   pub next-taken : next < dataSymbols → has row next ≡ true

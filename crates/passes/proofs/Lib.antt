@@ -1,4 +1,2 @@
 pub mod SourceLaws
 pub mod SumLaws
-pub mod SymbolLoopLaws
-pub mod PartLoopLaws

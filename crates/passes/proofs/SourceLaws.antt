@@ -6,7 +6,8 @@ use Prim.Native.Nat.{ℕ, zero, suc, _+_, _*_, _≤_, _<_}
 use native.Mathlib.Omega.{arith}
 use lib.Dec.{eqb}
 use lib.ListN.{length, getD, take}
-use Rattle.passes.specs.Passes.{places, listed, noSources, withSource, EachWithin, PlacesBelow}
+use Rattle.passes.specs.InnerSources.{places, listed, noSources, withSource, SourcesBelow}
+use Rattle.passes.specs.InnerSums.{EachWithin}
 use Rattle.passes.specs.declared.Sources.{Sources}
 
 -- An entry before the end of what is taken is taken
@@ -38,11 +39,11 @@ listed-with sources symbol few = by-count (sources .count) few
     by-count (suc (suc (suc (suc (suc count))))) h = absurd (omega arith)
 
 -- Where nothing is added, the places are below a bound that the symbol is below
-pub none-below : (bound symbol : ℕ) → symbol < bound → PlacesBelow bound (noSources symbol)
+pub none-below : (bound symbol : ℕ) → symbol < bound → SourcesBelow bound (noSources symbol)
 none-below bound symbol h = record { a-below = h; b-below = h; c-below = h; d-below = h; e-below = h }
 
 -- and where one is
-pub with-below : (bound : ℕ) (sources : Sources) (symbol : ℕ) → PlacesBelow bound sources → symbol < bound → PlacesBelow bound (withSource sources symbol)
+pub with-below : (bound : ℕ) (sources : Sources) (symbol : ℕ) → SourcesBelow bound sources → symbol < bound → SourcesBelow bound (withSource sources symbol)
 with-below bound sources symbol held h =
     record {
       a-below = either (eqb 0 (sources .count)) (held .a-below);

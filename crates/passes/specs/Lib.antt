@@ -1,3 +1,2 @@
-pub mod Passes
-pub mod InnerSymbols
-pub mod InnerParts
+pub mod InnerSources
+pub mod InnerSums

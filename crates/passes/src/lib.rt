@@ -1,12 +1,9 @@
-// One pass over the bytes of a symbol: what it takes, and its loops. Each byte of a sum is made in one go and stored once.
+// One pass over the bytes of a symbol: what it takes. Each byte of a sum is made in one go and stored once.
 ghost use mathlib.Core.Path.{_≡_};
 ghost use mathlib.Core.Bool.{cond};
 ghost use Prim.Native.Nat.{_<_};
 ghost use lib.Dec.{eqb};
-ghost use Rattle.passes.specs.Passes.{noSources, withSource};
-
-pub mod parts; // parts.rt: sources that are parts of another slice
-pub mod symbols; // symbols.rt: sources in the stripe of the target
+ghost use Rattle.passes.specs.InnerSources.{noSources, withSource};
 
 // How many sources a pass takes at most: so many that the compiler still makes a loop of its own for each number of them.
 pub const MOST_SOURCES: usize = 5;

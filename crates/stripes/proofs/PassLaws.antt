@@ -13,7 +13,7 @@ use Rattle.gf2.specs.Plans.{target}
 use Rattle.gf2.specs.declared.Step.{Step}
 use Rattle.gf2.specs.declared.Step.the-variants.{Add}
 use Rattle.gf2.specs.Stripes.{symbol, xorBytes, putSymbol, runOnStripe}
-use Rattle.passes.specs.Passes.{EachWithin, summed}
+use Rattle.passes.specs.InnerSums.{summedParts, summed, EachWithin}
 use Rattle.passes.proofs.SumLaws.{length-added}
 use Rattle.plan_sheets.specs.PlanSheets.{stepOf, stepAt}
 use Rattle.plan_sheets.specs.declared.step.SheetStep.{SheetStep}
@@ -75,7 +75,7 @@ taken-behind-step bytes count from step own behind taken decoded =
 pub adds-on-put : (L : ℕ) (x : List ℕ) (t : ℕ) → (t + 1) * L ≤ length x → (sources : List ℕ) (rest : List Step) (v : List ℕ) → length v ≡ L
     → EachWithin L (length x) sources → ((s : ℕ) → List·Memᴰ s sources → s ≢ t)
     → runOnStripe L (addsTo t sources ++ rest) (putSymbol L x t v) ≡ runOnStripe L rest (putSymbol L x t (summed L x v sources))
-unfolding summed runOnStripe
+unfolding summedParts runOnStripe
 adds-on-put L x t fits [] rest v v-length within others = refl
 adds-on-put L x t fits (s ∷ sources) rest v v-length within others =
     let s-within = within s (List·Memᴰ·head refl) in

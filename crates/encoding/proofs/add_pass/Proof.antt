@@ -2,7 +2,7 @@
 use mathlib.Core.Path.{ap, _∙_}
 use borrow.Author.Needs.{needs}
 use Rattle.gf2.specs.Stripes.{xorBytes}
-use Rattle.passes.proofs.PartLoopLaws.{handed-on, part-as-long}
+use Rattle.part_passes.proofs.LoopLaws.{handed-on, part-as-long}
 use Rattle.encoding.proofs.add_pass.Statement.{statement}
 use Rattle.encoding.proofs.add_pass.Tie as tie
 

@@ -1,7 +1,7 @@
 -- `encoding::copy_pass` meets its contract: the parts handed on are the data symbols. Assumes nothing.
 use mathlib.Core.Path.{_∙_}
 use borrow.Author.Needs.{needs}
-use Rattle.passes.proofs.PartLoopLaws.{handed-on, part-as-long}
+use Rattle.part_passes.proofs.LoopLaws.{handed-on, part-as-long}
 use Rattle.encoding.proofs.copy_pass.Statement.{statement}
 use Rattle.encoding.proofs.copy_pass.Tie as tie
 

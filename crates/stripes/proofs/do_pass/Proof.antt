@@ -2,7 +2,7 @@
 use mathlib.Core.Path.{sym, ap, _∙_, subst}
 use lib.ListN.{length}
 use Rattle.stripes.specs.InnerStepsWithin.{StepFits}
-use Rattle.passes.specs.Passes.{listed}
+use Rattle.passes.specs.InnerSources.{listed}
 use Rattle.stripes.proofs.RunLaws.{afterPass}
 use borrow.Author.Needs.{needs}
 use Rattle.stripes.proofs.do_pass.Statement.{statement}

@@ -3,7 +3,7 @@ use mathlib.Core.Path.{_≡_, sym, ap, _∙_, subst}
 use mathlib.Core.List.{List, [], _∷_, _++_}
 use Prim.Native.Nat.{ℕ, _+_, _-_, _≤_, _<_}
 use native.Mathlib.Omega.{arith}
-use Rattle.passes.specs.Passes.{listed}
+use Rattle.passes.specs.InnerSources.{listed}
 use Rattle.passes.specs.declared.Sources.{Sources}
 use Rattle.passes.proofs.SourceLaws.{listed-with}
 use Rattle.plan_sheets.specs.declared.step.SheetStep.{SheetStep}
