@@ -15,8 +15,8 @@ use Rattle.planner.specs.Planning.{Found, APattern, wholeDisk, listedOn}
 use Rattle.rebuild.specs.Rebuild.{stripeAfter}
 use Rattle.refusals.specs.Refusals.{_at_}
 use Rattle.refusals.specs.Orders.{Answer, Gives, Refuses}
+use Rattle.code_rows.specs.CodeRows.{rowBytes}
 use Rattle.code_sheets.specs.CodeReading.{reading}
-use Rattle.code_sheets.specs.CodeSheets.{rowBytes}
 
 -- ------------------------------------------------------------------
 -- Sheets

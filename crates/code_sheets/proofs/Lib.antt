@@ -1,4 +1,3 @@
-pub mod StrayLaws
 pub mod ReadingLaws
 pub mod SheetLaws
 pub mod ReadBackLaws

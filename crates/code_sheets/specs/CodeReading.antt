@@ -1,16 +1,15 @@
 -- Refusals 1 to 6 and reading (document 01, "When the desk says no"):
 -- "Order for a code sheet: under 6 bytes (1), first count (3), 4, 5, second count (3), 1, 2, 6."
-use mathlib.Core.Bool.{Bool, not, _&&_}
+use mathlib.Core.Bool.{not}
 use mathlib.Core.List.{List, [], _∷_, _++_}
-use Prim.Native.Nat.{ℕ, _+_, _*_, _/_, _%_}
-use lib.Dec.{eqb, leb, ltb}
+use Prim.Native.Nat.{ℕ, _*_}
+use lib.Dec.{eqb, ltb}
 use lib.ListN.{length, getD}
 use Rattle.codes.specs.Codes.{LinearCode, linear, noCode}
-use Rattle.bits.specs.BitSets.{has}
-use Rattle.bits.specs.Lists.{firstFrom}
 use Rattle.refusals.specs.Orders.{Fault, _gets_, firstOf, ifFine, Outcome, outcome}
 use Rattle.refusals.specs.Refusals.{_at_}
-use Rattle.code_sheets.specs.CodeSheets.{codeIn, sheetLength}
+use Rattle.code_rows.specs.CodeRows.{sheetLength, firstStray}
+use Rattle.code_sheets.specs.CodeSheets.{codeIn}
 use Rattle.code_sheets.specs.declared.Reading.{Reading}
 
 -- n is 2 to 64, r 1 to 32, N at most 64, K 1 to 64
@@ -36,14 +35,6 @@ headFaults sheetBytes count edition disks height dataSymbols symbols =
     ∷ (ltb sheetBytes (sheetLength symbols) gets 1 at 0)
     ∷ (ltb (sheetLength symbols) sheetBytes gets 2 at 0)
     ∷ []
-
--- A place is row times 64 plus bit. It has a stray bit if that bit is at K or above and is set
-unfoldable pub strayAt : List ℕ → ℕ → ℕ → Bool
-strayAt rows dataSymbols place = leb dataSymbols (place % 64) && has (getD rows (place / 64) 0) (place % 64)
-
--- The first stray bit of so many rows; the place behind the last row where there is none
-abbrev pub firstStray : List ℕ → ℕ → ℕ → ℕ
-firstStray rows count dataSymbols = firstFrom (strayAt rows dataSymbols) 0 (count * 64)
 
 -- A bit at K or above is set
 abbrev pub strayFault : List ℕ → ℕ → ℕ → Fault
