@@ -8,9 +8,9 @@ ghost use Rattle.families.specs.FamilySheets.{familySheet, familyVerdict
 use code_rows::sheet_length;
 use code_sheets::write::write_code;
 pub use family_codes::Family;
-use family_codes::code::code_of;
 use family_codes::listed::is_listed;
 use family_codes::listed::layout_of;
+use family_matrices::code_of;
 use refusals::Refusal;
 use refusals::Verdict;
 

@@ -1,24 +1,20 @@
 -- Laws of the families: sums over disks, what holds of the parameters that refusal 36 lets through, and where rows stand. Assumes nothing.
 use mathlib.Core.Path.{_≡_, refl, sym, ap, ap₂, _∙_}
-use mathlib.Core.List.{List}
-use mathlib.Core.Bool.{Bool, true, false, cond, _&&_, _||_, false≢true}
+use mathlib.Core.Bool.{Bool, true, false, _&&_, _||_, false≢true}
 use Prim.Native.Nat.{ℕ, zero, suc, _+_, _-_, _*_, _%_, _^_, _≤_, _<_}
 use native.Mathlib.Nat.{mul-le-mul, mod-lt, mod-add-mod, add-mod-right, mod-eq-of-lt}
 use native.Mathlib.Numerals.{add-one}
 use native.Mathlib.Omega.{arith}
-use lib.Bits.{bitXor, xor-lt, xor-zero-r, or-zero-l}
+use lib.Bits.{bitXor, xor-lt}
 use lib.Dec.{eqb, leb}
 use lib.Pow.{pow-pos}
-use borrow.Author.Tests.{leb-true, eqb-true, le-leb, eq-eqb, ne-eqb, lt-ltb, le-ltb}
-use Rattle.bits.specs.BitSets.{with}
-use Rattle.codes.specs.Codes.{LinearCode, rowsOf}
+use borrow.Author.Tests.{leb-true, eqb-true}
 use Rattle.codes.specs.Layouts.{symbolsOf, firstSymbol, heightOf, diskOf}
 use Rattle.codes.specs.declared.Layout.{Layout}
 use Rattle.codes.proofs.LayoutLaws.{strips-in-order, strip-within, on-disk-between, on-own-disk, disk-of-below}
 use Rattle.family_codes.specs.declared.Family.{Family}
 use Rattle.family_codes.specs.declared.Family.the-variants.{SingleParity, Liberation, RowDiagonal, EvenOdd}
-use Rattle.family_codes.specs.Families.{sumOver, unit, entry, dataOrRowParity, diagonalRow, diagonalEntry, evenOddS, dataDisks, familyHeight, parityDisks, threeFiveOrSeven, belowLimits, listed, dataSymbols, familyLayout, qRow, parityRow, diskRow, familyRow, familyCode}
-use Rattle.family_codes.specs.InnerDataSums.{qEntry, entryOf, dataSum}
+use Rattle.family_codes.specs.Families.{sumOver, diagonalRow, dataDisks, familyHeight, parityDisks, threeFiveOrSeven, belowLimits, listed, dataSymbols, familyLayout}
 
 -- ------------------------------------------------------------------
 -- Sums
@@ -27,16 +23,6 @@ use Rattle.family_codes.specs.InnerDataSums.{qEntry, entryOf, dataSum}
 pub sumOver-more : (count : ℕ) (term : ℕ → ℕ) → bitXor (sumOver count term) (term count) ≡ sumOver (count + 1) term
 unfolding sumOver
 sumOver-more count term = rw add-one
-
--- A turn of a loop that sums
-pub sumOver-turn : (count : ℕ) (term : ℕ → ℕ) (sum next result : ℕ) → sum ≡ sumOver count term → next ≡ term count
-    → result ≡ bitXor sum next → result ≡ sumOver (count + 1) term
-sumOver-turn count term sum next result e f g = g ∙ ap₂ bitXor e f ∙ sumOver-more count term
-
--- The end of a loop that sums
-pub sumOver-done : (count reached : ℕ) (term : ℕ → ℕ) (sum : ℕ) → reached ≤ count → count ≤ reached → sum ≡ sumOver reached term
-    → sum ≡ sumOver count term
-sumOver-done count reached term sum a b e = let end : reached ≡ count = omega arith in rw end at e
 
 -- Equal terms have equal sums
 pub sumOver-equal : (count : ℕ) (f g : ℕ → ℕ) → ((c : ℕ) → c < count → f c ≡ g c) → sumOver count f ≡ sumOver count g
@@ -55,17 +41,6 @@ sumOver-below bits (suc count) term h =
 -- ------------------------------------------------------------------
 -- Rows of the matrix
 
--- The leaf's set of one bit
-pub with-none-unit : (symbol : ℕ) → with 0 symbol ≡ unit symbol
-unfolding with unit
-with-none-unit symbol = or-zero-l (2 ^ symbol)
-
--- An identity row as the program makes it
-pub entry-made : (family : Family) (layout : Layout) (disk row first none : ℕ) → layout ≡ familyLayout family
-    → first ≡ firstSymbol layout disk → none ≡ 0 → with none (first + row) ≡ entry family disk row
-entry-made family layout disk row first none e f g =
-    ap₂ with g (ap (λ (n : ℕ). n + row) (f ∙ ap (λ (l : Layout). firstSymbol l disk) e)) ∙ with-none-unit (firstSymbol (familyLayout family) disk + row)
-
 -- The diagonal's row j has j + c = i mod p ..
 pub diagonalRow-solves : (p i c : ℕ) → i < p → c ≤ p → (diagonalRow p i c + c) % p ≡ i
 diagonalRow-solves p i c h l =
@@ -83,95 +58,6 @@ diagonalRow-alone p i c j l b e =
     ∙ sym (mod-add-mod (j + c) p (p - c))
     ∙ ap (λ (n : ℕ). (n + (p - c)) % p) e
     ∙ ap (λ (n : ℕ). n % p) split
-
--- P takes row i
-pub entryOf-of-P : (family : Family) (parity i c : ℕ) → parity ≡ 0 → entry family c i ≡ entryOf family parity i c
-unfolding entryOf
-entryOf-of-P family parity i c e = simp (eq-eqb parity 0 e)
-
--- Q takes what the family says
-pub entryOf-of-Q : (family known : Family) (parity i c : ℕ) → ¬ (parity ≡ 0) → family ≡ known → qEntry known i c ≡ entryOf family parity i c
-unfolding entryOf
-entryOf-of-Q family known parity i c n e =
-    sym (ap (λ (f : Family). qEntry f i c) e) ∙ sym (simp (ne-eqb parity 0 n))
-
--- ------------------------------------------------------------------
--- Parity rows
-
--- P is the sum over the data disks
-pub parityRow-of-P : (family : Family) (parity i : ℕ) → parity ≡ 0 → dataSum family 0 i ≡ parityRow family parity i
-unfolding parityRow entryOf
-parityRow-of-P family parity i e = sym (simp (eq-eqb parity 0 e))
-
--- Q is what the family says
-pub parityRow-of-Q : (family known : Family) (parity i : ℕ) → ¬ (parity ≡ 0) → family ≡ known → qRow known i ≡ parityRow family parity i
-unfolding parityRow
-parityRow-of-Q family known parity i n e =
-    sym (ap (λ (f : Family). qRow f i) e) ∙ sym (simp (ne-eqb parity 0 n))
-
--- Liberation's is the sum over the data disks
-pub qRow-of-liberation : (family : Family) (w k i : ℕ) → family ≡ Liberation w k → dataSum family 1 i ≡ qRow (Liberation w k) i
-unfolding entryOf
-qRow-of-liberation family w k i e = ap (λ (f : Family). dataSum f 1 i) e
-
--- Row-diagonal's has disk p − 1 besides, ..
-module _ (p i : ℕ) (h : i + 1 < p) where
-  abbrev taken : ℕ → ℕ
-  taken = diagonalEntry (dataOrRowParity (RowDiagonal p)) p i
-
-  qRow-split : bitXor (dataSum (RowDiagonal p) 1 i) (taken (p - 1)) ≡ qRow (RowDiagonal p) i
-  unfolding entryOf diagonalEntry dataOrRowParity
-  qRow-split =
-      let disks : p - 1 + 1 ≡ p = omega arith in
-      ap (λ (s : ℕ). bitXor s (taken (p - 1))) (sumOver-equal (p - 1) (qEntry (RowDiagonal p) i) taken (λ c l. simp (lt-ltb c (p - 1) l)))
-      ∙ sumOver-more (p - 1) taken
-      ∙ ap (λ (n : ℕ). sumOver n taken) disks
-
-  -- .. of which the diagonal takes row i + 1
-  row-on-parity : diagonalRow p i (p - 1) ≡ i + 1
-  row-on-parity =
-      let further : i + p - (p - 1) ≡ i + 1 = omega arith in
-      ap (λ (n : ℕ). n % p) further ∙ mod-eq-of-lt h
-
-  pub row-diagonal-with-parity : i + 1 < p - 1 → bitXor (dataSum (RowDiagonal p) 1 i) (dataSum (RowDiagonal p) 0 (i + 1)) ≡ qRow (RowDiagonal p) i
-  unfolding entryOf diagonalEntry dataOrRowParity
-  row-diagonal-with-parity l =
-      ap (bitXor (dataSum (RowDiagonal p) 1 i))
-      (sym (simp (row-on-parity, lt-ltb (i + 1) (p - 1) l, le-ltb (p - 1) (p - 1) (omega arith))))
-      ∙ qRow-split
-
-  -- The last row takes nothing of it
-  pub row-diagonal-without-parity : p - 1 ≤ i + 1 → dataSum (RowDiagonal p) 1 i ≡ qRow (RowDiagonal p) i
-  unfolding diagonalEntry
-  row-diagonal-without-parity l =
-      sym (xor-zero-r (dataSum (RowDiagonal p) 1 i))
-      ∙ ap (bitXor (dataSum (RowDiagonal p) 1 i)) (sym (simp (row-on-parity, le-ltb (i + 1) (p - 1) l)))
-      ∙ qRow-split
-
--- EVENODD's S is the diagonal p − 1, ..
-module _ (p : ℕ) (h : 1 ≤ p) where
-  row-on-last-diagonal : (c : ℕ) → c < p → diagonalRow p (p - 1) c ≡ p - 1 - c
-  row-on-last-diagonal c l =
-      let turn : p - 1 + p - c ≡ p - 1 - c + p = omega arith in
-      let below : p - 1 - c < p = omega arith in
-      ap (λ (n : ℕ). n % p) turn ∙ add-mod-right (p - 1 - c) p ∙ mod-eq-of-lt below
-
-  last-diagonal-entry : (family : Family) (c : ℕ) → c < p
-      → cond (leb 1 c) (entry family c (p - 1 - c)) 0 ≡ diagonalEntry (entry family) p (p - 1) c
-  unfolding diagonalEntry
-  last-diagonal-entry family zero l =
-      sym (simp (row-on-last-diagonal zero l, le-ltb (p - 1 - zero) (p - 1) (omega arith)))
-  last-diagonal-entry family (suc c) l =
-      sym (simp (row-on-last-diagonal (suc c) l, lt-ltb (p - 1 - suc c) (p - 1) (omega arith), le-leb 1 (suc c) (omega arith)))
-
-  evenOddS-is-diagonal : (family : Family) → evenOddS family p ≡ sumOver p (diagonalEntry (entry family) p (p - 1))
-  evenOddS-is-diagonal family = sumOver-equal p _ (diagonalEntry (entry family) p (p - 1)) (λ c l. last-diagonal-entry family c l)
-
-  -- .. which Q has besides the row's own
-  pub qRow-of-even-odd : (i : ℕ) → bitXor (dataSum (EvenOdd p) 1 (p - 1)) (dataSum (EvenOdd p) 1 i) ≡ qRow (EvenOdd p) i
-  unfolding entryOf
-  qRow-of-even-odd i =
-      ap (λ (s : ℕ). bitXor s (dataSum (EvenOdd p) 1 i)) (sym (evenOddS-is-diagonal (EvenOdd p)))
 
 -- ------------------------------------------------------------------
 -- Parameters
@@ -335,30 +221,3 @@ module _ (family : Family) (h : listed family ≡ true) (s : ℕ) where
   row-of-symbol =
       let strip = on-disk-between layout (diskOf layout s) s (on-own-disk layout positive s) in
       omega (arith, strip, height-of-disk family (diskOf layout s))
-
--- What the program computes of a symbol, and the row that follows
-module _ (family : Family) (s k disk row : ℕ) (e : k ≡ dataDisks family) (f : disk ≡ diskOf (familyLayout family) s)
-    (g : row ≡ s - firstSymbol (familyLayout family) (diskOf (familyLayout family) s)) where
-  -- A symbol on a data disk has an identity row
-  pub familyRow-of-data-disk : disk < k → entry family disk row ≡ familyRow family s
-  unfolding familyRow diskRow
-  familyRow-of-data-disk l =
-      ap₂ (entry family) f g ∙ sym (simp (lt-ltb (diskOf (familyLayout family) s) (dataDisks family) (rw (e, f) at l)))
-
-  -- A symbol on a parity disk has a parity row
-  pub familyRow-of-parity-disk : k ≤ disk → parityRow family (disk - k) row ≡ familyRow family s
-  unfolding familyRow diskRow
-  familyRow-of-parity-disk l =
-      ap₂ (λ (d j : ℕ). parityRow family (d - k) j) f g
-      ∙ ap (λ (n : ℕ). parityRow family (diskOf (familyLayout family) s - n) (s - firstSymbol (familyLayout family) (diskOf (familyLayout family) s))) e
-      ∙ sym (simp (le-ltb (diskOf (familyLayout family) s) (dataDisks family) (rw (e, f) at l)))
-
--- The code is its layout, K and the rows of all symbols
-pub familyCode-of-parts : (family : Family) (layout : Layout) (symbols count reached : ℕ) (rows : List ℕ) → layout ≡ familyLayout family
-    → symbols ≡ symbolsOf layout → count ≡ dataSymbols family → reached ≤ symbols → symbols ≤ reached
-    → rows ≡ rowsOf reached (familyRow family)
-    → _≡_ {A = LinearCode} record { layout = layout; data_symbols = count; rows = rows } (familyCode family)
-unfolding familyCode
-familyCode-of-parts family layout symbols count reached rows e f g a b h =
-    let end : reached ≡ symbolsOf (familyLayout family) = omega (arith, f ∙ ap symbolsOf e) in
-    rw (h, end, e, g)
