@@ -1,4 +1,2 @@
-pub mod GatherLaws
-pub mod PassLaws
 pub mod EncodingLaws
 pub mod CallLaws

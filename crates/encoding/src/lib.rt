@@ -1,130 +1,18 @@
-// Encoding: the generator-matrix product, symbol by symbol; up to six data symbols are summed in one pass over the target's bytes.
+// Encoding: the generator-matrix product, symbol by symbol.
 ghost use mathlib.Core.Path.{_≡_};
-ghost use Prim.Native.Nat.{_+_, _-_, _*_, _≤_, _<_};
+ghost use Prim.Native.Nat.{_*_, _≤_};
 ghost use lib.ListN.{length, take};
-ghost use Rattle.bits.specs.BitSets.{has};
-ghost use Rattle.bits.specs.Lists.{firstFrom};
-ghost use Rattle.bits.specs.Numerals.{setWidth, numeral, numerals};
-ghost use Rattle.gf2.specs.Stripes.{symbol, xorBytes, encodedSymbol, encoding};
-ghost use Rattle.passes.specs.InnerSources.{listed};
-ghost use Rattle.passes.specs.InnerSums.{summed};
+ghost use Rattle.bits.specs.Numerals.{setWidth, numerals};
+ghost use Rattle.gf2.specs.Stripes.{encoding};
 ghost use Rattle.refusals.specs.Orders.{outcome, andThen};
 ghost use Rattle.encoding.specs.Encoding.{encodeFaults, encodeVerdict, encodedStripe};
-ghost use Rattle.encoding.specs.InnerPasses.{DataSymbolFits, PassFits, Gathers};
-use bits::BitSet;
 use bits::BitSets;
-use bits::lowest_from;
 use code_sheets::read_code;
 use codes::is_length;
 use codes::symbol_length_test;
-use part_passes::add;
-use part_passes::clear;
-use part_passes::copy;
-use passes::MOST_SOURCES;
-use passes::Sources;
-use passes::no_sources;
-use passes::with_source;
 use refusals::Refusal;
 use refusals::Verdict;
-
-// The sources of a pass, and where the next one begins: a data symbol, or K where none is left.
-struct Gathered {
-    sources: Sources,
-    next: usize,
-}
-
-// A data symbol, as a part out of the middle of the lent data.
-fn data_symbol<'a>(contents: &'a [u8], t: usize, size: usize) -> &'a [u8]
-    requires { ⌜ DataSymbolFits size (length (now contents)) t ⌝ }
-    ensures { λ r. ⌜ now r ≡ symbol size (now (contents .entry)) t ⌝ }
-{
-    &contents[t * size..(t + 1) * size]
-}
-
-// The target becomes a data symbol, and the sources are added.
-fn copy_pass(target: &mut [u8], contents: &[u8], first: usize, size: usize, sources: Sources)
-    requires { ⌜ PassFits size (length (now contents)) first sources × (length (now target) ≡ size) ⌝ }
-    ensures { λ _. ⌜ now (target .exit) ≡ summed size (now (contents .entry)) (symbol size (now (contents .entry)) first) (listed sources) ⌝ }
-{
-    copy(
-        target,
-        data_symbol(contents, first, size),
-        sources.count,
-        data_symbol(contents, sources.a, size),
-        data_symbol(contents, sources.b, size),
-        data_symbol(contents, sources.c, size),
-        data_symbol(contents, sources.d, size),
-        data_symbol(contents, sources.e, size),
-    )
-}
-
-// The target becomes itself XOR a data symbol, and the sources are added.
-fn add_pass(target: &mut [u8], contents: &[u8], first: usize, size: usize, sources: Sources)
-    requires { ⌜ PassFits size (length (now contents)) first sources × (length (now target) ≡ size) ⌝ }
-    ensures { λ _. ⌜ now (target .exit) ≡ summed size (now (contents .entry)) (xorBytes (now (target .entry)) (symbol size (now (contents .entry)) first)) (listed sources) ⌝ }
-{
-    add(
-        target,
-        data_symbol(contents, first, size),
-        sources.count,
-        data_symbol(contents, sources.a, size),
-        data_symbol(contents, sources.b, size),
-        data_symbol(contents, sources.c, size),
-        data_symbol(contents, sources.d, size),
-        data_symbol(contents, sources.e, size),
-    )
-}
-
-// The first data symbol of a row from one on; K where there is none.
-fn next_symbol(row: BitSet, from: usize, data_symbols: usize) -> usize
-    requires { ⌜ (from ≤ data_symbols) × (data_symbols ≤ setWidth) ⌝ }
-    ensures { λ r. ⌜ r ≡ firstFrom (has (numeral row)) from (data_symbols - from) ⌝ }
-{
-    let next = lowest_from(row, from);
-    if next < data_symbols {
-        return next;
-    }
-    data_symbols
-}
-
-// The data symbols of a row that a pass takes behind its first, and the one that the next pass begins with.
-fn gather(row: BitSet, first: usize, data_symbols: usize) -> Gathered
-    requires { ⌜ (first < data_symbols) × (data_symbols ≤ setWidth) ⌝ }
-    ensures { λ r. ⌜ Gathers (numeral row) data_symbols (first + 1) (r .sources) (r .next) ⌝ }
-{
-    let mut sources = no_sources(first);
-    let mut next = next_symbol(row, first + 1, data_symbols);
-    while next < data_symbols {
-        if sources.count == MOST_SOURCES {
-            return Gathered { sources, next };
-        }
-        sources = with_source(sources, next);
-        next = next_symbol(row, next + 1, data_symbols);
-    }
-    Gathered { sources, next }
-}
-
-// One symbol: the XOR of the data symbols whose bits the row has, up to six in one pass.
-fn encode_symbol(row: BitSet, data_symbols: usize, size: usize, contents: &[u8], target: &mut [u8])
-    requires { ⌜ (data_symbols ≤ setWidth) × (length (now contents) ≡ data_symbols * size) × (length (now target) ≡ size) ⌝ }
-    ensures { λ _. ⌜ now (target .exit) ≡ encodedSymbol size (now (contents .entry)) (numeral row) data_symbols ⌝ }
-{
-    let first = next_symbol(row, 0, data_symbols);
-    if first == data_symbols {
-        clear(target);
-        return;
-    }
-    let pass = gather(row, first, data_symbols);
-    let sources = pass.sources;
-    copy_pass(target, contents, first, size, sources);
-    let mut next = pass.next;
-    while next < data_symbols {
-        let pass = gather(row, next, data_symbols);
-        let sources = pass.sources;
-        add_pass(target, contents, next, size, sources);
-        next = pass.next;
-    }
-}
+use row_passes::encode_symbol;
 
 // Every symbol, one after the other.
 fn encode_symbols(

@@ -1,13 +1,13 @@
 -- Laws of the loops over a target's bytes: each turn sets one byte, the last leaves the whole. Assumes nothing.
 use mathlib.Core.Path.{_≡_, refl, sym, ap, _∙_}
 use mathlib.Core.List.{List, [], _∷_, map, List·Memᴰ·head, List·Memᴰ·tail}
-use Prim.Native.Nat.{ℕ, zero, suc, _+_, _*_, _≤_, _<_}
+use Prim.Native.Nat.{ℕ, zero, suc, _+_, _≤_, _<_}
 use native.Mathlib.Omega.{arith}
 use lib.Bits.{bitXor}
 use lib.ListN.{length, getD, set, take, replicate, length-replicate, getD-replicate}
 use Rattle.bits.proofs.StoreLaws.{overwritten, overwritten-next, overwritten-more, overwritten-all}
 use Rattle.gf2.specs.Stripes.{symbol, xorBytes}
-use Rattle.gf2.proofs.SymbolLaws.{length-symbol, length-xorBytes, getD-xorBytes}
+use Rattle.gf2.proofs.SymbolLaws.{length-xorBytes, getD-xorBytes}
 use Rattle.passes.specs.InnerSources.{places, listed}
 use Rattle.passes.specs.InnerSums.{summedParts, summed, summedByte, partBytes}
 use Rattle.passes.specs.declared.Sources.{Sources}
@@ -67,11 +67,6 @@ pub handed-on : (L : ℕ) (bytes : List ℕ) (sources : Sources) {start begun a 
     → summedParts start (take (sources .count) (fiveParts a b c d e)) ≡ summed L bytes begun (listed sources)
 handed-on L bytes sources {begun = begun} start-is a-is b-is c-is d-is e-is =
     rw (start-is, a-is, b-is, c-is, d-is, e-is) (ap (summedParts begun) (map-take L bytes (sources .count) (places sources)))
-
--- Such a part has as many bytes as the target
-pub part-as-long : (L : ℕ) (bytes target : List ℕ) (s : ℕ) {part : List ℕ} → (s + 1) * L ≤ length bytes → length target ≡ L → part ≡ symbol L bytes s
-    → length part ≡ length target
-part-as-long L bytes target s fits whole e = ap length e ∙ length-symbol L bytes s fits ∙ sym whole
 
 -- ------------------------------------------------------------------
 -- The loops that sum

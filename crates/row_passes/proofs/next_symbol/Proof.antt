@@ -1,10 +1,10 @@
--- `encoding::next_symbol` meets its contract: the row's lowest element from one on, where it is a data symbol. Assumes nothing.
+-- `row_passes::next_symbol` meets its contract: the row's lowest element from one on, where it is a data symbol. Assumes nothing.
 use native.Mathlib.Omega.{arith}
 use borrow.Author.Needs.{needs}
 use Rattle.bits.specs.Numerals.{setWidth, numeral}
-use Rattle.encoding.proofs.GatherLaws.{next-within, next-behind}
-use Rattle.encoding.proofs.next_symbol.Statement.{statement}
-use Rattle.encoding.proofs.next_symbol.Tie as tie
+use Rattle.row_passes.proofs.GatherLaws.{next-within, next-behind}
+use Rattle.row_passes.proofs.next_symbol.Statement.{statement}
+use Rattle.row_passes.proofs.next_symbol.Tie as tie
 
 lowest-from-requires : tie.Need-lowest-from-requires
 lowest-from-requires c κs = search needs

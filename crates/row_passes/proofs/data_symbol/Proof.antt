@@ -1,9 +1,9 @@
--- `encoding::data_symbol` meets its contract: the part from t × L to (t + 1) × L is the symbol. Assumes nothing.
+-- `row_passes::data_symbol` meets its contract: the part from t × L to (t + 1) × L is the symbol. Assumes nothing.
 use native.Mathlib.Omega.{arith}
 use borrow.Author.Needs.{needs}
 use Rattle.gf2.proofs.SymbolLaws.{part-is-symbol}
-use Rattle.encoding.proofs.data_symbol.Statement.{statement}
-use Rattle.encoding.proofs.data_symbol.Tie as tie
+use Rattle.row_passes.proofs.data_symbol.Statement.{statement}
+use Rattle.row_passes.proofs.data_symbol.Tie as tie
 
 mul-result : tie.Need-mul-result
 mul-result c = search needs

@@ -1,10 +1,11 @@
--- `encoding::add_pass` meets its contract: the parts handed on are the data symbols. Assumes nothing.
+-- `row_passes::add_pass` meets its contract: the parts handed on are the data symbols. Assumes nothing.
 use mathlib.Core.Path.{ap, _∙_}
 use borrow.Author.Needs.{needs}
 use Rattle.gf2.specs.Stripes.{xorBytes}
-use Rattle.part_passes.proofs.LoopLaws.{handed-on, part-as-long}
-use Rattle.encoding.proofs.add_pass.Statement.{statement}
-use Rattle.encoding.proofs.add_pass.Tie as tie
+use Rattle.part_passes.proofs.LoopLaws.{handed-on}
+use Rattle.row_passes.proofs.PassLaws.{parts-as-long}
+use Rattle.row_passes.proofs.add_pass.Statement.{statement}
+use Rattle.row_passes.proofs.add_pass.Tie as tie
 
 data-symbol-requires : tie.Need-data-symbol-requires
 data-symbol-requires c κs = search needs
@@ -27,15 +28,10 @@ data-symbol-requires-6 c κs = search needs
 add-requires : tie.Need-add-requires
 add-requires c κs =
     let start = c .before .before .before .before .before .before .before .before .before in
-    let fits = start .pre .0 in (
-      fits .few,
-      part-as-long (start .args .size) (start .args .contents .now) (start .args .target .now) (start .args .first) (fits .first-fits .1) (start .pre .1) (c .before .before .before .before .before .data-symbol .ensures),
-      part-as-long (start .args .size) (start .args .contents .now) (start .args .target .now) (start .args .sources .a) (fits .a-fits .1) (start .pre .1) (c .before .before .before .before .data-symbol2 .ensures),
-      part-as-long (start .args .size) (start .args .contents .now) (start .args .target .now) (start .args .sources .b) (fits .b-fits .1) (start .pre .1) (c .before .before .before .data-symbol3 .ensures),
-      part-as-long (start .args .size) (start .args .contents .now) (start .args .target .now) (start .args .sources .c) (fits .c-fits .1) (start .pre .1) (c .before .before .data-symbol4 .ensures),
-      part-as-long (start .args .size) (start .args .contents .now) (start .args .target .now) (start .args .sources .d) (fits .d-fits .1) (start .pre .1) (c .before .data-symbol5 .ensures),
-      part-as-long (start .args .size) (start .args .contents .now) (start .args .target .now) (start .args .sources .e) (fits .e-fits .1) (start .pre .1) (c .data-symbol6 .ensures),
-    )
+    let args = start .args in
+    parts-as-long (args .size) (args .contents .now) (args .target .now) (args .first) (args .sources) (start .pre .0) (start .pre .1)
+    (c .before .before .before .before .before .data-symbol .ensures) (c .before .before .before .before .data-symbol2 .ensures) (c .before .before .before .data-symbol3 .ensures)
+    (c .before .before .data-symbol4 .ensures) (c .before .data-symbol5 .ensures) (c .data-symbol6 .ensures)
 
 same-length : tie.Need-same-length
 same-length c = search needs

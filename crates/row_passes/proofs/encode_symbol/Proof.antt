@@ -1,13 +1,13 @@
--- `encoding::encode_symbol` meets its contract. The invariant: the target and what the row still takes make the encoded symbol. Assumes nothing.
+-- `row_passes::encode_symbol` meets its contract. The invariant: the target and what the row still takes make the encoded symbol. Assumes nothing.
 use mathlib.Core.Path.{ap, _∙_}
 use Prim.Native.Nat.{ℕ, _-_}
 use native.Mathlib.Omega.{arith}
 use lib.ListN.{length, replicate}
 use Rattle.bits.specs.Numerals.{numeral}
-use Rattle.encoding.proofs.GatherLaws.{next-found, gathered-fit}
-use Rattle.encoding.proofs.PassLaws.{SummedTo, none-taken, first-pass, next-pass, all-passed}
-use Rattle.encoding.proofs.encode_symbol.Statement.{statement}
-use Rattle.encoding.proofs.encode_symbol.Tie as tie
+use Rattle.row_passes.proofs.GatherLaws.{next-found, gathered-fit}
+use Rattle.row_passes.proofs.PassLaws.{SummedTo, none-taken, first-pass, next-pass, all-passed}
+use Rattle.row_passes.proofs.encode_symbol.Statement.{statement}
+use Rattle.row_passes.proofs.encode_symbol.Tie as tie
 
 abbrev Inv-loop : tie.InvT-loop
 Inv-loop row data-symbols size contents target₀ first next₀ target next = SummedTo (numeral row) data-symbols size contents target next

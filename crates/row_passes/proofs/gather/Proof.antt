@@ -1,13 +1,13 @@
--- `encoding::gather` meets its contract. The invariant: the row's data symbols are those gathered and those from the next on. Assumes nothing.
+-- `row_passes::gather` meets its contract. The invariant: the row's data symbols are those gathered and those from the next on. Assumes nothing.
 use Prim.Native.Nat.{_+_, _-_}
 use native.Mathlib.Omega.{arith}
 use Rattle.bits.specs.BitSets.{has}
 use Rattle.bits.specs.Numerals.{numeral}
 use Rattle.bits.proofs.SearchLaws.{firstFrom-between}
-use Rattle.encoding.specs.InnerPasses.{Gathers}
-use Rattle.encoding.proofs.GatherLaws.{next-found, gathers-none, gathers-more}
-use Rattle.encoding.proofs.gather.Statement.{statement}
-use Rattle.encoding.proofs.gather.Tie as tie
+use Rattle.row_passes.specs.InnerPasses.{Gathers}
+use Rattle.row_passes.proofs.GatherLaws.{next-found, gathers-none, gathers-more}
+use Rattle.row_passes.proofs.gather.Statement.{statement}
+use Rattle.row_passes.proofs.gather.Tie as tie
 
 abbrev Inv-loop : tie.InvT-loop
 Inv-loop row first data-symbols sources₀ next₀ sources next = Gathers (numeral row) data-symbols (first + 1) sources next

@@ -15,7 +15,7 @@ use Rattle.passes.specs.InnerSources.{listed, noSources, withSource}
 use Rattle.passes.specs.InnerSums.{summedParts, summed, EachWithin}
 use Rattle.passes.specs.declared.Sources.{Sources}
 use Rattle.passes.proofs.SourceLaws.{listed-with, none-below, with-below}
-use Rattle.encoding.specs.InnerPasses.{DataSymbolFits, PassFits, Gathers}
+use Rattle.row_passes.specs.InnerPasses.{DataSymbolFits, PassFits, Gathers}
 
 -- ------------------------------------------------------------------
 -- The symbols of a set, rising

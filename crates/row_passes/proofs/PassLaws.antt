@@ -15,8 +15,26 @@ use Rattle.passes.specs.InnerSources.{listed}
 use Rattle.passes.specs.InnerSums.{summedParts, summed}
 use Rattle.passes.specs.declared.Sources.{Sources}
 use Rattle.passes.proofs.SumLaws.{length-added, length-summed, summed-append}
-use Rattle.encoding.specs.InnerPasses.{Gathers}
-use Rattle.encoding.proofs.GatherLaws.{takenFrom, taken-behind, taken-here, NextOf, gathered-within, summed-first, taken-sum}
+use Rattle.row_passes.specs.InnerPasses.{DataSymbolFits, PassFits, Gathers}
+use Rattle.row_passes.proofs.GatherLaws.{takenFrom, taken-behind, taken-here, NextOf, gathered-within, summed-first, taken-sum}
+
+-- ------------------------------------------------------------------
+-- What a pass hands on
+
+-- The parts that are data symbols at the places of a pass have as many bytes as the target
+pub parts-as-long : (L : ℕ) (bytes target : List ℕ) (first : ℕ) (sources : Sources) → PassFits L (length bytes) first sources → length target ≡ L
+    → {begun a b c d e : List ℕ} → begun ≡ symbol L bytes first → a ≡ symbol L bytes (sources .a) → b ≡ symbol L bytes (sources .b)
+    → c ≡ symbol L bytes (sources .c) → d ≡ symbol L bytes (sources .d) → e ≡ symbol L bytes (sources .e)
+    → (sources .count ≤ 5) × (length begun ≡ length target) × (length a ≡ length target) × (length b ≡ length target) × (length c ≡ length target)
+    × (length d ≡ length target) × (length e ≡ length target)
+parts-as-long L bytes target first sources fits whole begun-is a-is b-is c-is d-is e-is =
+    (fits .few, as-long first (fits .first-fits) begun-is, as-long _ (fits .a-fits) a-is, as-long _ (fits .b-fits) b-is, as-long _ (fits .c-fits) c-is, as-long _ (fits .d-fits) d-is, as-long _ (fits .e-fits) e-is)
+  where
+    as-long : (s : ℕ) {part : List ℕ} → DataSymbolFits L (length bytes) s → part ≡ symbol L bytes s → length part ≡ length target
+    as-long s fit e = ap length e ∙ length-symbol L bytes s (fit .1) ∙ sym whole
+
+-- ------------------------------------------------------------------
+-- Pass after pass
 
 -- A symbol added to zero bytes is that symbol
 zeros-added : (L : ℕ) (a : List ℕ) → length a ≡ L → xorBytes (replicate L 0) a ≡ a
