@@ -2,7 +2,6 @@
 use mathlib.Core.Path.{ap₂, _∙_}
 use native.Mathlib.Omega.{arith}
 use lib.Bits.{bitXor}
-use borrow.Author.Needs.{needs}
 use Rattle.family_matrices.proofs.MatrixLaws.{qRow-of-even-odd}
 use Rattle.family_matrices.proofs.even_odd_q.Statement.{statement}
 use Rattle.family_matrices.proofs.even_odd_q.Tie as tie
@@ -11,10 +10,10 @@ sub-data-sum : tie.Need-sub-data-sum
 sub-data-sum c = omega arith
 
 data-sum-requires : tie.Need-data-sum-requires
-data-sum-requires c κs = search needs
+data-sum-requires c κs = (c .pre .0, omega arith, λ e. omega arith)
 
 data-sum-requires-2 : tie.Need-data-sum-requires-2
-data-sum-requires-2 c κs = search needs
+data-sum-requires-2 c κs = (c .before .pre .0, omega arith, λ e. omega arith)
 
 sum-requires : tie.Need-sum-requires
 sum-requires c κs = tt
