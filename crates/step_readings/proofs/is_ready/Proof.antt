@@ -1,11 +1,11 @@
--- `steps::is_ready` meets its contract: the places that each kind of step uses are looked up. Assumes nothing.
+-- `step_readings::is_ready` meets its contract: the places that each kind of step uses are looked up. Assumes nothing.
 use mathlib.Core.Path.{sym, _∙_, subst}
 use native.Mathlib.Omega.{arith}
 use Rattle.gf2.specs.Plans.{NamesBelow}
 use Rattle.bits.specs.Numerals.{setWidth}
 use borrow.Author.Needs.{needs}
-use Rattle.steps.proofs.is_ready.Statement.{statement}
-use Rattle.steps.proofs.is_ready.Tie as tie
+use Rattle.step_readings.proofs.is_ready.Statement.{statement}
+use Rattle.step_readings.proofs.is_ready.Tie as tie
 
 enum-told : tie.Need-enum-told
 enum-told c = c .match .keys1

@@ -1,8 +1,8 @@
--- `steps::onto_itself` meets its contract: a clear has no source, of any other step source and target are compared. Assumes nothing.
+-- `step_readings::onto_itself` meets its contract: a clear has no source, of any other step source and target are compared. Assumes nothing.
 use native.Mathlib.Omega.{arith}
 use borrow.Author.Tests.{eq-eqb, ne-eqb}
-use Rattle.steps.proofs.onto_itself.Statement.{statement}
-use Rattle.steps.proofs.onto_itself.Tie as tie
+use Rattle.step_readings.proofs.onto_itself.Statement.{statement}
+use Rattle.step_readings.proofs.onto_itself.Tie as tie
 
 returns : tie.Need-returns
 returns c = simp (ne-eqb (c .before .args .step .kind) 0 (λ clear. omega (arith, clear, c .if1 .taken)))
