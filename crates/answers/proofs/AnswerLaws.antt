@@ -22,7 +22,7 @@ use Rattle.refusals.specs.declared.Verdict.{Verdict}
 use Rattle.code_sheets.specs.CodeReading.{CodeRead}
 use Rattle.views.specs.Places.{nowhere, stripPart, stripPlace, sliceOf, Shows}
 use Rattle.views.specs.Views.{layoutOf, stripVerdict}
-use Rattle.views.specs.declared.Part.{Part}
+use Rattle.strips.specs.declared.Part.{Part}
 use Rattle.plans.specs.declared.Checked.the-variants as Checks
 use Rattle.refusals.specs.declared.Verdict.the-variants as Verdicts
 

@@ -220,3 +220,17 @@ reading-kept sheet bytes {answer} e = (
   λ fine. subst (λ (r : CodeRead). WithinLimits (r .code)) (sym e)
       (code-within-limits sheet bytes (ap (λ (r : CodeRead). r .verdict) (sym e) ∙ fine)),
 )
+
+-- ------------------------------------------------------------------
+-- What a caller has read
+
+-- What `read_code` promises of its answer: it is the reading, and within the limits where nothing is refused
+abbrev pub ReadFrom : List ℕ → CodeRead → Type 0
+ReadFrom sheet read = (read ≡ reading sheet) × (read .verdict ≡ Fine → WithinLimits (read .code))
+
+-- The numbers of the layout, read or not, are small
+pub layout-small : (sheet : List ℕ) (read : CodeRead) → ReadFrom sheet read
+    → (read .code .layout .disks ≤ 255) × (read .code .layout .height ≤ 255)
+layout-small sheet read from =
+    let small : Small (read .code) = subst (λ (r : CodeRead). Small (r .code)) (sym (from .0)) (reading-small sheet) in
+    (omega (arith, small .disks-to), omega (arith, small .height-to))

@@ -1,4 +1,2 @@
-pub mod ReadLaws
 pub mod PartLaws
-pub mod StripLaws
 pub mod LookUpLaws

@@ -16,11 +16,13 @@ use Rattle.refusals.specs.Orders.{_gets_, andThen, ifFine, Outcome, Fine, Refus
 use Rattle.refusals.specs.Refusals.{Numbered, _at_}
 use Rattle.refusals.proofs.OrderLaws.{fine-means-none-holds, refused-is-not-fine}
 use Rattle.code_sheets.specs.CodeReading.{CodeRead}
-use Rattle.views.proofs.ReadLaws.{ReadFrom}
-use Rattle.views.proofs.StripLaws.{StripFits, fine-strip-fits}
-use Rattle.views.specs.Places.{sliceOf, nowhere, symbolPart, symbolPlace, Shows}
-use Rattle.views.specs.Views.{stripFaults, lookUpFaults, lookUpVerdict, symbolOf, symbolShown}
-use Rattle.views.specs.declared.Part.{Part}
+use Rattle.code_sheets.proofs.ReadingLaws.{ReadFrom}
+use Rattle.strips.proofs.StripLaws.{StripFits, fine-strip-fits}
+use Rattle.strips.specs.Places.{sliceOf, nowhere, Shows}
+use Rattle.strips.specs.Strips.{stripFaults}
+use Rattle.strips.specs.declared.Part.{Part}
+use Rattle.views.specs.Places.{symbolPart, symbolPlace}
+use Rattle.views.specs.Views.{lookUpFaults, lookUpVerdict, symbolOf, symbolShown}
 use lib.Dec.{leb, eqb}
 
 -- What a fine verdict says: the strip fits, the spare strip is whole and the symbol is one of the array's

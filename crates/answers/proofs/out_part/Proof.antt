@@ -2,7 +2,7 @@
 use mathlib.Core.Path.{sym, ap}
 use mathlib.Core.Bool.{Bool, cond}
 use Rattle.answers.specs.declared.OutPart.{OutPart}
-use Rattle.views.specs.declared.Part.{Part}
+use Rattle.strips.specs.declared.Part.{Part}
 use Rattle.answers.proofs.out_part.Statement.{statement}
 use Rattle.answers.proofs.out_part.Tie as tie
 

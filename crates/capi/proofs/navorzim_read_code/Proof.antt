@@ -1,7 +1,7 @@
 -- `capi::navorzim_read_code` meets its contract: it is `read_code`, and the numbers of its code. Assumes nothing.
 use Rattle.answers.proofs.AnswerLaws.{code-out}
 use Rattle.code_sheets.specs.CodeReading.{asRead}
-use Rattle.views.proofs.ReadLaws.{layout-small}
+use Rattle.code_sheets.proofs.ReadingLaws.{layout-small}
 use Rattle.capi.proofs.navorzim_read_code.Statement.{statement}
 use Rattle.capi.proofs.navorzim_read_code.Tie as tie
 

@@ -1,7 +1,8 @@
 -- `views::look_up` meets its contract: it is the part of the stripe or of the spare strip that `symbol_place` names. Assumes nothing.
 use native.Mathlib.Omega.{arith}
-use Rattle.views.proofs.PartLaws.{part-shown, shows-there, begins-there}
-use Rattle.views.specs.Places.{Shows}
+use Rattle.strips.proofs.PartLaws.{part-shown}
+use Rattle.strips.specs.Places.{Shows}
+use Rattle.views.proofs.PartLaws.{shows-there, begins-there}
 use Rattle.views.specs.Views.{symbolShown, lookUpVerdict}
 use lib.ListN.{length}
 use Rattle.views.proofs.look_up.Statement.{statement}

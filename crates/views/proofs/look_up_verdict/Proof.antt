@@ -1,6 +1,6 @@
 -- `views::look_up_verdict` meets its contract. Assumes nothing.
 use Rattle.code_sheets.specs.CodeReading.{asRead}
-use Rattle.views.proofs.ReadLaws.{layout-small}
+use Rattle.code_sheets.proofs.ReadingLaws.{layout-small}
 use Rattle.views.proofs.LookUpLaws.{look-up-verdict-is}
 use Rattle.views.proofs.look_up_verdict.Statement.{statement}
 use Rattle.views.proofs.look_up_verdict.Tie as tie

@@ -4,7 +4,7 @@ use native.Mathlib.Omega.{arith}
 use lib.ListN.{length}
 use Rattle.refusals.specs.Orders.{outcome}
 use Rattle.code_sheets.specs.CodeReading.{asRead}
-use Rattle.views.proofs.ReadLaws.{layout-small}
+use Rattle.code_sheets.proofs.ReadingLaws.{layout-small}
 use Rattle.views.proofs.LookUpLaws.{LookUpFits, fine-look-up-fits, look-up-refused, lost-from-first, lost-ends-within, lost-placed, survivor-ends-within, survivor-placed}
 use Rattle.views.proofs.symbol_place.Statement.{statement}
 use Rattle.views.proofs.symbol_place.Tie as tie

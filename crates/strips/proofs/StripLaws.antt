@@ -14,10 +14,10 @@ use Rattle.refusals.specs.Orders.{andThen, ifFine, Outcome, Fine, Refused}
 use Rattle.refusals.specs.Refusals.{Numbered}
 use Rattle.refusals.proofs.OrderLaws.{fine-means-none-holds, refused-is-not-fine}
 use Rattle.code_sheets.specs.CodeReading.{CodeRead}
-use Rattle.views.proofs.ReadLaws.{ReadFrom}
-use Rattle.views.specs.Places.{nowhere, stripPart, stripPlace, Shows}
-use Rattle.views.specs.Views.{stripFaults, stripVerdict, stripOf, stripShown}
-use Rattle.views.specs.declared.Part.{Part}
+use Rattle.code_sheets.proofs.ReadingLaws.{ReadFrom}
+use Rattle.strips.specs.Places.{nowhere, stripPart, stripPlace, Shows}
+use Rattle.strips.specs.Strips.{stripFaults, stripVerdict, stripOf, stripShown}
+use Rattle.strips.specs.declared.Part.{Part}
 
 -- What a fine verdict says: there is a code, the disk is one of its array's, L is within its bounds and the stripe is whole
 pub record StripFits (read : CodeRead) (disk size stripeBytes : ℕ) : Type 0 where

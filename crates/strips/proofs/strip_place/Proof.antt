@@ -1,13 +1,13 @@
--- `views::strip_place` meets its contract: the part of no bytes where its verdict refuses, the disk's strip where it is fine. Assumes nothing.
+-- `strips::strip_place` meets its contract: the part of no bytes where its verdict refuses, the disk's strip where it is fine. Assumes nothing.
 use mathlib.Core.Path.{refl, ap}
 use native.Mathlib.Omega.{arith}
 use lib.ListN.{length}
 use Rattle.refusals.specs.Orders.{outcome}
 use Rattle.code_sheets.specs.CodeReading.{asRead}
-use Rattle.views.proofs.ReadLaws.{layout-small}
-use Rattle.views.proofs.StripLaws.{StripFits, fine-strip-fits, strip-ends-within, strip-refused, strip-placed}
-use Rattle.views.proofs.strip_place.Statement.{statement}
-use Rattle.views.proofs.strip_place.Tie as tie
+use Rattle.code_sheets.proofs.ReadingLaws.{layout-small}
+use Rattle.strips.proofs.StripLaws.{StripFits, fine-strip-fits, strip-ends-within, strip-refused, strip-placed}
+use Rattle.strips.proofs.strip_place.Statement.{statement}
+use Rattle.strips.proofs.strip_place.Tie as tie
 
 read-code-requires : tie.Need-read-code-requires
 read-code-requires c κs = tt

@@ -1,9 +1,9 @@
--- `views::strip_verdict` meets its contract. Assumes nothing.
+-- `strips::strip_verdict` meets its contract. Assumes nothing.
 use Rattle.code_sheets.specs.CodeReading.{asRead}
-use Rattle.views.proofs.ReadLaws.{layout-small}
-use Rattle.views.proofs.StripLaws.{strip-verdict-is}
-use Rattle.views.proofs.strip_verdict.Statement.{statement}
-use Rattle.views.proofs.strip_verdict.Tie as tie
+use Rattle.code_sheets.proofs.ReadingLaws.{layout-small}
+use Rattle.strips.proofs.StripLaws.{strip-verdict-is}
+use Rattle.strips.proofs.strip_verdict.Statement.{statement}
+use Rattle.strips.proofs.strip_verdict.Tie as tie
 
 read-code-requires : tie.Need-read-code-requires
 read-code-requires c κs = tt

@@ -1,8 +1,8 @@
--- `views::strip` meets its contract: it is the part of the stripe that `strip_place` names. Assumes nothing.
+-- `strips::strip` meets its contract: it is the part of the stripe that `strip_place` names. Assumes nothing.
 use native.Mathlib.Omega.{arith}
-use Rattle.views.proofs.PartLaws.{part-shown, begins-in-one}
-use Rattle.views.proofs.strip.Statement.{statement}
-use Rattle.views.proofs.strip.Tie as tie
+use Rattle.strips.proofs.PartLaws.{part-shown, begins-in-one}
+use Rattle.strips.proofs.strip.Statement.{statement}
+use Rattle.strips.proofs.strip.Tie as tie
 
 strip-place-requires : tie.Need-strip-place-requires
 strip-place-requires c κs = tt

@@ -1,6 +1,6 @@
--- `views::strip_test` meets its contract: the chain of tests is the list of faults. Assumes nothing.
-use Rattle.views.proofs.strip_test.Statement.{statement}
-use Rattle.views.proofs.strip_test.Tie as tie
+-- `strips::strip_test` meets its contract: the chain of tests is the list of faults. Assumes nothing.
+use Rattle.strips.proofs.strip_test.Statement.{statement}
+use Rattle.strips.proofs.strip_test.Tie as tie
 
 symbols-requires : tie.Need-symbols-requires
 symbols-requires c κs = c .pre
