@@ -14,11 +14,12 @@
  *   L            bytes in a symbol                                        1 to 65,536
  *
  *   sheet        a code sheet: n, r, K and the generator matrix           22 to 518 bytes, 6 + 8 * N
- *   plan         a plan sheet: the steps that rebuild one disk, or        9 to 3,114 bytes, see below
- *                some of its symbols
+ *   plan         a plan sheet: the steps that rebuild one disk or more,   9 to 3,210 bytes, see below
+ *                or some of their symbols
  *   disk         the failed disk, or the one asked for                    0 to n - 1
- *   wanted       the numbers of the symbols to be rebuilt, a byte each,   1 to r bytes
- *                rising, all on the failed disk
+ *   disks        the failed disks, a byte each, rising                    1 to n bytes
+ *   wanted       the numbers of the symbols to be rebuilt, a byte each,   for one disk 1 to r bytes; for a list of disks
+ *                rising, all on failed disks                              0 to all their symbols, and 0 wants them all
  *   size         L
  *   contents     the data symbols one after the other                     K * L bytes
  *   stripe       all symbols one after the other; symbol s, which is      N * L bytes
@@ -26,7 +27,8 @@
  *   spare        the strip of the failed disk, on another disk            r * L bytes
  *   symbol       a symbol's number, disk * r + row                        0 to N - 1
  *   buffer       where a code sheet is to be written                      as long as the sheet, or longer
- *                where a plan sheet is to be written                      3,081 bytes or more; with a list 3,114 or more
+ *                where a plan sheet is to be written                      3,081 bytes or more; with wanted symbols 3,114 or more;
+ *                                                                         for a list of disks 3,210 or more
  *   .._length    the bytes of the buffer named before it
  *
  * A symbol is the XOR of the data symbols whose bits are set in its row of the generator matrix. Bit 0 is the lowest.
@@ -34,19 +36,22 @@
  *
  * Plan sheets
  *
- * A plan rebuilds the failed disk's WANTED symbols. A sheet of edition 1 wants the whole disk; one of edition 2 lists m symbols.
+ * A plan rebuilds the WANTED symbols of the failed disks. A sheet of edition 1 wants the whole of one disk; one of edition 2 lists m
+ * symbols of one disk; one of edition 3 lists d disks, and m of their symbols or, with m = 0, wants all of them.
  *
- *   byte     edition 1                        byte       edition 2
- *   0        6                                0          6
- *   1        1                                1          2
- *   2, 3, 4  n, r, K                          2, 3, 4    n, r, K
- *   5        the failed disk                  5          the failed disk
- *   6        how many symbols are read        6          how many symbols are read
- *                                             7          m, 1 to r
- *                                             8          the m wanted symbols, a byte each, rising, all on the failed disk
- *   7        how many steps, at most 1,024,   8 + m      how many steps, at most 1,024, in 2 bytes, low byte first
- *            in 2 bytes, low byte first
- *   9        the steps, 3 bytes each          10 + m     the steps, 3 bytes each
+ *   byte of edition 1, 2, 3             holds
+ *   0        0        0                 6 in editions 1 and 2, 5 in edition 3
+ *   1        1        1                 the edition
+ *   2, 3, 4  2, 3, 4  2, 3, 4           n, r, K
+ *                     5                 how many symbols are read
+ *   5        5                          the failed disk
+ *                     6                 d, 1 to n
+ *                     7                 the d failed disks, a byte each, rising
+ *   6        6                          how many symbols are read
+ *            7        7 + d             m: 1 to r in edition 2, 0 to d * r in edition 3
+ *            8        8 + d             the m wanted symbols, a byte each, rising, all on failed disks
+ *   7        8 + m    8 + d + m         how many steps, at most 1,024, in 2 bytes, low byte first
+ *   9        10 + m   10 + d + m        the steps, 3 bytes each
  *
  * A step is kind, target, source. Kind 0, clear: the target becomes zero, and the source byte is 0. Kind 1, copy: the target becomes the
  * source. Kind 2, add: the target becomes target XOR source. A target is a wanted symbol. A source survives, or is a wanted symbol that an
@@ -66,35 +71,47 @@
  *    4      its edition isn't 1
  *    5      its n, r, N or K is beyond a limit
  *    6      a bit at K or above is set in its matrix                                   row * 64 + bit of the first
- *    7      the disk isn't below n
+ *    7      a disk that is asked about, or that the plan sheet lists, isn't below n
  *   11, 12  the plan sheet is too short, too long
- *   13      its first count isn't 6, or it has more than 1,024 steps
- *   14      its edition isn't 1 or 2
+ *   13      its first count isn't 6 or 5, or it has more than 1,024 steps
+ *   14      its edition isn't 1 or 2 with first count 6, or 3 with first count 5
  *   15      its n, r or K isn't the code's
- *   16      its failed disk isn't the one asked about
+ *   16      its failed disks aren't those asked about
  *   17      a step's kind is above 2, a number isn't below N, or a clear has a source  the step, from 0
- *   18      a step's target isn't a wanted symbol of the failed disk                   the step
+ *   18      a step's target isn't a wanted symbol                                      the step
  *   19      a step uses a lost place that no earlier step has filled                   the step
- *   20      a wanted symbol is never filled                                            its row of the disk, the lowest
- *   21      a wanted symbol ends wrong                                                 its row of the disk, the lowest, times 64,
- *                                                                                      plus the lowest data symbol that is off
+ *   20      a wanted symbol is never filled                                            the lowest: its row of the disk, or in
+ *                                                                                      edition 3 its number
+ *   21      a wanted symbol ends wrong                                                 the lowest, as for 20, times 64, plus the
+ *                                                                                      lowest data symbol that is off
  *   22      the plan's read count isn't the true one                                   the true count
- *   23      the list of wanted symbols has no entry, or more than r                    0
- *           an entry isn't above the one before it, or isn't on the failed disk        its position in the list, from 0
+ *   23      the list of wanted symbols has more entries than there are lost symbols,   0
+ *           or, in edition 2 and for navorzim_plan_wanted, none
+ *           an entry isn't above the one before it, or isn't on a failed disk          its position in the list, from 0
+ *   24      the list of failed disks has no entry, or more than n                      0
+ *           an entry isn't above the one before it                                     its position in the list, from 0
  *   25      a copy or add has its target for its source                                the step
  *   31      L is 0 or above 65,536
  *   32      the stripe isn't N * L bytes
  *   33      the data aren't K * L bytes
- *   34      the plan buffer has fewer than 3,081 bytes, or than 3,114 with a list
+ *   34      the plan buffer has fewer than 3,081 bytes, than 3,114 with wanted
+ *           symbols, or than 3,210 for a list of disks
  *   35      the spare strip isn't r * L bytes
  *   36      the family has no such parameters, or its n, N or r is above a limit
  *   37      the sheet buffer is shorter than the sheet to be written
  *   38      the symbol isn't below N
  *
- * The order of "the code sheet's" is 1 (under 6 bytes), 3 (first count), 4, 5, 3 (second count), 1, 2, 6. That of "the plan sheet's" is
- * 11 (under 9 bytes), 13 (first count), 14, 15, 16; then in edition 1 13 (steps), 11, 12, and in edition 2 11 (the sheet ends before the
- * step count does), 13 (steps), 23, 11, 12; then 17, 18, 25, 19 of each step in turn; then 20 over the wanted symbols, 21 over the wanted
- * symbols, 22.
+ * The order of "the code sheet's" is 1 (under 6 bytes), 3 (first count), 4, 5, 3 (second count), 1, 2, 6.
+ *
+ * That of "the plan sheet's" is 11 (under 9 bytes), 13 (first count), 14, 15; then by its edition
+ *
+ *   1   16, 13 (steps)
+ *   2   16, 11 (the sheet ends before the step count does), 13 (steps), 23
+ *   3   11 (the sheet ends before the step count does), 13 (steps), 7 (over the list of disks), 24, 16, 23
+ *
+ * and 11, 12; then 17, 18, 25, 19 of each step in turn; then 20 over the wanted symbols, 21 over the wanted symbols, 22.
+ *
+ * That of a list is its count, then its entries in turn. A list of disks that is asked about is tested for 7, over all of it, then 24.
  *
  *
  * Buffers
@@ -115,10 +132,12 @@
 extern "C" {
 #endif
 
-/* No code sheet and no plan sheet is longer than this: a buffer of this length always suffices. A buffer for navorzim_plan must have 3,081
- * bytes or more, and one for navorzim_plan_wanted 3,114 or more: NAVORZIM_PLAN_BYTES is enough for both. */
+/* Lengths of buffers that always suffice. No code sheet is longer than the first. A buffer for navorzim_plan must have 3,081 bytes or more,
+ * and one for navorzim_plan_wanted 3,114 or more: the second is enough for both. A buffer for navorzim_plan_disks must have as many bytes as
+ * the third, or more, and no plan sheet is longer. */
 #define NAVORZIM_SHEET_BYTES 518
 #define NAVORZIM_PLAN_BYTES 3114
+#define NAVORZIM_PLAN_DISKS_BYTES 3210
 
 /* Nothing refused (0, 0), or the refusal. */
 typedef struct {
@@ -141,7 +160,7 @@ typedef struct {
 } navorzim_checked;
 
 /* Exactly one of number, length and pattern is not 0. number: refused. length: a plan of so many bytes, and it reads so many symbols.
- * pattern: no plan exists, and this is why (see navorzim_plan and navorzim_plan_wanted). */
+ * pattern: no plan exists, and this is why (see navorzim_plan, navorzim_plan_wanted and navorzim_plan_disks). */
 typedef struct {
     uint64_t number, place, length, reads, pattern;
 } navorzim_planned;
@@ -185,9 +204,15 @@ navorzim_verdict navorzim_encode(const uint8_t *sheet, size_t sheet_length, uint
 /* ---------------------------------------------------------------------------------------------------------------------------------
  * Check: is this plan right for this code and this failed disk? It is accepted exactly when it brings back every wanted symbol of every
  * valid stripe, whatever the lost strip holds, from surviving symbols and wanted places that it has filled itself, writes no other place,
- * and states the number of symbols that it reads. Plan sheets of both editions are taken. Writes nothing.
+ * and states the number of symbols that it reads. Plan sheets of all editions are taken. Writes nothing.
  * Refusals: the code sheet's, 7, the plan sheet's. */
 navorzim_checked navorzim_check(const uint8_t *sheet, size_t sheet_length, uint64_t disk, const uint8_t *plan, size_t plan_length);
+
+/* Check for a list of failed disks: is this plan right for this code when all of these disks have failed? As navorzim_check, which asks
+ * about the list of its one disk. A plan for other disks, some of these or more than these, is refused (16).
+ * Refusals: the code sheet's, 7, 24, the plan sheet's. */
+navorzim_checked navorzim_check_disks(const uint8_t *sheet, size_t sheet_length, const uint8_t *disks, size_t disks_length,
+                                      const uint8_t *plan, size_t plan_length);
 
 /* ---------------------------------------------------------------------------------------------------------------------------------
  * Plan: how can this disk be rebuilt from the others?
@@ -210,6 +235,19 @@ navorzim_planned navorzim_plan(const uint8_t *sheet, size_t sheet_length, uint64
 navorzim_planned navorzim_plan_wanted(const uint8_t *sheet, size_t sheet_length, uint64_t disk, const uint8_t *wanted, size_t wanted_length,
                                       uint8_t *buffer, size_t buffer_length);
 
+/* Plan for a list of failed disks: how can they, or the wanted symbols of them, be rebuilt from the other disks? The disks are bytes, 1 to
+ * n of them, rising. The wanted symbols are bytes too, rising, all on these disks; without any (length 0) all symbols of these disks are
+ * wanted.
+ * If it can be done, a plan sheet of edition 3 with exactly these lists is written to the front of the buffer, which must have 3,210 bytes
+ * or more, and its length and read count are answered; the bytes after it stay. Of N symbols with x lost the plan has at most x * (N - x)
+ * steps, or, if no disk survives, at most one clear for each wanted symbol. navorzim_check_disks accepts these very bytes with this very
+ * count. It need not be the one that reads the fewest symbols.
+ * If it can't, by any plan of any length, nothing is written and a pattern is answered: K bits, not all 0. The stripe of the data in which
+ * the symbols of the set bits are 01 bytes and the others 0 is 0 on every surviving disk and not 0 in some wanted symbol.
+ * Refusals: the code sheet's, 7, 24, 23, 34. */
+navorzim_planned navorzim_plan_disks(const uint8_t *sheet, size_t sheet_length, const uint8_t *disks, size_t disks_length,
+                                     const uint8_t *wanted, size_t wanted_length, uint8_t *buffer, size_t buffer_length);
+
 /* ---------------------------------------------------------------------------------------------------------------------------------
  * Rebuild: checks the plan, on every call, and then runs its steps on the stripe. The wanted symbols are written, and all other bytes stay,
  * also those of lost symbols that aren't wanted. A plan of edition 1 wants the whole disk: the r * L bytes from byte disk * r * L on. Of a
@@ -217,6 +255,12 @@ navorzim_planned navorzim_plan_wanted(const uint8_t *sheet, size_t sheet_length,
  * Refusals: those of navorzim_check, 31, 32. */
 navorzim_verdict navorzim_rebuild(const uint8_t *sheet, size_t sheet_length, uint64_t disk, const uint8_t *plan, size_t plan_length,
                                   uint64_t size, uint8_t *stripe, size_t stripe_length);
+
+/* Rebuild for a list of failed disks: as navorzim_rebuild, which is asked about the list of its one disk. A plan of edition 3 that lists no
+ * wanted symbols writes the strips of all these disks. What is written never depends on what any lost strip held.
+ * Refusals: those of navorzim_check_disks, 31, 32. */
+navorzim_verdict navorzim_rebuild_disks(const uint8_t *sheet, size_t sheet_length, const uint8_t *disks, size_t disks_length,
+                                        const uint8_t *plan, size_t plan_length, uint64_t size, uint8_t *stripe, size_t stripe_length);
 
 /* ---------------------------------------------------------------------------------------------------------------------------------
  * One strip: where the r * L bytes of a disk stand in the stripe (slice 0). Reads the sheet alone; writes nothing. Where it refuses, the

@@ -5,13 +5,15 @@
 import os
 import sys
 from ctypes import CDLL, Structure, c_size_t, c_uint64, create_string_buffer
-from typing import Any, Optional, Union
+from itertools import combinations
+from typing import Any, Union
 
 import second
 from arrays import SPECIAL_CODES, below, chosen, random_bytes, random_code, shuffled
 from second import Code, Refusal, changed, read_code, sheet_of
-from second_checker import check, lost_places, plan_sheet
-from second_planner import BUFFER, LIST_BUFFER, can_be_rebuilt, judge_pattern, judge_plan, planning_refusal
+from second_checker import P2, ROW_1, TWO_DISKS, Disks, check, plan_sheet, set_sheet
+from second_planner import BUFFER, LIST_BUFFER, SET_BUFFER, Wish, can_be_rebuilt, for_disk, for_disks, judge_pattern, judge_plan
+from second_planner import planning_refusal
 from second_rebuild import rebuild
 
 FIELDS = {
@@ -30,9 +32,12 @@ ANSWERS = {
     "evenodd": "sheet",
     "encode": "verdict",
     "check": "checked",
+    "check_disks": "checked",
     "plan": "planned",
     "plan_wanted": "planned",
+    "plan_disks": "planned",
     "rebuild": "verdict",
+    "rebuild_disks": "verdict",
     "strip": "part",
     "strip_verdict": "verdict",
     "look_up": "part",
@@ -90,32 +95,51 @@ def test_encode(sheet: bytes, size: int, data: bytes, stripe: bytes) -> None:
     assert buffer.raw == after
 
 
-def test_plan(sheet: bytes, disk: int, length: int, listed: Optional[bytes] = None) -> bytes:
+def ask_plan(sheet: bytes, wish: Wish, buffer: Any) -> tuple[int, ...]:
+    """By the call that writes the edition."""
+    if wish.edition == 1:
+        return ask("plan", sheet, wish.disks[0], buffer)
+    if wish.edition == 2:
+        return ask("plan_wanted", sheet, wish.disks[0], wish.listed, buffer)
+    return ask("plan_disks", sheet, wish.disks, wish.listed, buffer)
+
+
+def test_plan(sheet: bytes, wish: Wish, length: int) -> bytes:
     """Planning's answer is free, so it is held to what must be true of it. Answers the plan, or no bytes."""
-    before = random_bytes(length)
+    before = (random_bytes(97) * (length // 97 + 1))[:length]
     buffer = lent(before)
-    call, given = ("plan", ()) if listed is None else ("plan_wanted", (listed,))
-    number, place, size, reads, pattern = ask(call, sheet, disk, *given, buffer)
+    number, place, size, reads, pattern = ask_plan(sheet, wish, buffer)
     plan = buffer.raw[:size]
-    refusal = planning_refusal(sheet, disk, listed, length)
+    refusal = planning_refusal(sheet, wish, length)
     assert buffer.raw[size:] == before[size:]
     if refusal:
         assert (number, place, size, reads, pattern) == (*refusal, 0, 0, 0)
-    elif can_be_rebuilt(read_code(sheet), disk, listed):
-        assert (number, place, pattern) == (0, 0, 0) and judge_plan(sheet, disk, plan, reads, listed) is None
+    elif can_be_rebuilt(read_code(sheet), wish):
+        assert (number, place, pattern) == (0, 0, 0) and judge_plan(sheet, wish, plan, reads) is None
     else:
-        assert (number, place, size, reads) == (0, 0, 0, 0) and judge_pattern(sheet, disk, pattern, listed) is None
+        assert (number, place, size, reads) == (0, 0, 0, 0) and judge_pattern(sheet, wish, pattern) is None
     return plan
 
 
 def test_check(sheet: bytes, disk: int, plan: bytes) -> None:
-    assert ask("check", sheet, disk, plan) == told(check(sheet, disk, plan))
+    assert ask("check", sheet, disk, plan) == told(check(sheet, [disk], plan))
+
+
+def test_check_disks(sheet: bytes, disks: bytes, plan: bytes) -> None:
+    assert ask("check_disks", sheet, disks, plan) == told(check(sheet, disks, plan))
 
 
 def test_rebuild(sheet: bytes, disk: int, plan: bytes, size: int, stripe: bytes) -> None:
     buffer = lent(stripe)
-    refusal, after = rebuild(sheet, disk, plan, size, stripe)
+    refusal, after = rebuild(sheet, [disk], plan, size, stripe)
     assert ask("rebuild", sheet, disk, plan, size, buffer) == told(refusal)[:2]
+    assert buffer.raw == after
+
+
+def test_rebuild_disks(sheet: bytes, disks: bytes, plan: bytes, size: int, stripe: bytes) -> None:
+    buffer = lent(stripe)
+    refusal, after = rebuild(sheet, disks, plan, size, stripe)
+    assert ask("rebuild_disks", sheet, disks, plan, size, buffer) == told(refusal)[:2]
     assert buffer.raw == after
 
 
@@ -132,11 +156,19 @@ def test_views(sheet: bytes, disk: int, size: int, stripe: bytes, spare: bytes, 
         assert ask(call + "_verdict", *given) == told(refusal)[:2]
 
 
-def any_list(code: Code, disk: int) -> bytes:
-    """A good list of a disk's symbols in two of three cases, else one with another entry, order or count."""
-    lost = lost_places(code, disk)
+def any_disks(code: Code) -> bytes:
+    """A good list of disks in three of four cases, else one with another entry, order or count."""
+    every = list(range(code.disks))
+    good = sorted(shuffled(every)[: 1 + below(min(4, len(every)))] if below(4) else every)
+    bad = [good[:-1] + [below(256)], good[::-1], good + good[-1:], [], every + [below(code.disks)], [0] * chosen((255, 256, 300)), [0] * 300 + [255]]
+    return bytes(good if below(4) else chosen(bad))
+
+
+def any_list(code: Code, disks: Disks) -> bytes:
+    """A good list of the disks' symbols in two of three cases, else one with another entry, order or count."""
+    lost = [symbol for symbol in range(code.symbols) if symbol // code.height in disks] or [0]
     good = sorted(shuffled(lost)[: 1 + below(len(lost))])
-    bad = [good[:-1] + [below(256)], good[::-1], good + good[-1:], [], list(lost) + [lost[-1] + 1], good[:1] * chosen((255, 256, 300))]
+    bad = [good[:-1] + [below(256)], good[::-1], good + good[-1:], [], lost + [lost[-1] + 1], good[:1] * chosen((255, 256, 300))]
     return bytes(good if below(3) else chosen(bad))
 
 
@@ -150,20 +182,58 @@ def test_array(code: Code) -> None:
     for sheet in (*[good] * 6, changed(good, below(len(good)), below(256)), good[:-1], good + b"\0", b""):
         test_read_code(sheet)
         for fault in range(4):
-            disk = code.disks if fault == 1 else below(code.disks)
+            own = below(code.disks)
+            disk = chosen((code.disks, 256 + own, 2**32 + own, 2**64 - 1)) if fault == 1 else own
             length = chosen((0, 65537)) if fault == 2 else size
             stripe = random_bytes(code.symbols * size + (fault == 3))
             test_encode(sheet, length, random_bytes(code.data_symbols * size), stripe)
             test_encode(sheet, length, random_bytes(code.data_symbols * size + 1), stripe)
             spare = random_bytes(code.height * size + chosen((0, 0, 1)))
             test_views(sheet, disk, length, stripe, spare, below(code.symbols + 1))
-            listed = any_list(code, disk)
-            plan = test_plan(sheet, disk, BUFFER - chosen((0, 0, 0, 1)) + chosen((0, 0, 9)))
-            part = test_plan(sheet, disk, LIST_BUFFER - chosen((0, 0, 0, 1, 33)) + chosen((0, 0, 9)), listed)
-            stated = [plan_sheet(code, disk, []), plan_sheet(code, disk, [], listed=listed[:255])]
+            listed = any_list(code, [own])
+            plan = test_plan(sheet, for_disk(disk), BUFFER - chosen((0, 0, 0, 1)) + chosen((0, 0, 9)))
+            part = test_plan(sheet, for_disk(disk, listed), LIST_BUFFER - chosen((0, 0, 0, 1, 33)) + chosen((0, 0, 9)))
+            stated = [plan_sheet(code, own, []), plan_sheet(code, own, [], listed=listed[:255])]
             for tried in with_faults(plan) + with_faults(part) + stated:
                 test_check(sheet, disk, tried)
                 test_rebuild(sheet, disk, tried, length, stripe)
+        test_sets(code, sheet, chosen((size, size, 0)), random_bytes(code.symbols * size + chosen((0, 0, 1))))
+
+
+def test_sets(code: Code, sheet: bytes, size: int, stripe: bytes) -> None:
+    """The calls for sets of disks, and each kind of call with sheets of the other editions."""
+    disks = any_disks(code)
+    listed = chosen((b"", any_list(code, disks)))
+    plan = test_plan(sheet, for_disks(disks, listed), SET_BUFFER - chosen((0, 0, 0, 1, 96)) + chosen((0, 0, 9)))
+    one = test_plan(sheet, for_disks(disks[:1]), SET_BUFFER)
+    stated = [set_sheet(code, disks[:255], []), set_sheet(code, disks[:255], [], listed=listed[:255]), plan_sheet(code, (disks or b"\0")[0], [])]
+    for tried in with_faults(plan) + with_faults(one) + stated:
+        for asked in (disks, disks[:1]):
+            test_check_disks(sheet, asked, tried)
+            test_rebuild_disks(sheet, asked, tried, size, stripe)
+        test_check(sheet, sum(disks[:1]), tried)
+
+
+def test_large_disks() -> None:
+    """A disk of 256 or more, which in its low byte looks like the plan's own."""
+    sheet, alone = sheet_of(second.SQUARE), set_sheet(second.SQUARE, [0], [])
+    for plan in (P2, ROW_1, alone, TWO_DISKS, b""):
+        for disk in (0, 3, 4, 255, 256, 257, 2**32, 2**61, 2**63, 2**64 - 1):
+            test_check(sheet, disk, plan)
+            test_rebuild(sheet, disk, plan, 2, random_bytes(16))
+            test_plan(sheet, for_disk(disk), BUFFER)
+            test_plan(sheet, for_disk(disk, b"\1"), LIST_BUFFER)
+
+
+def test_two_losses() -> None:
+    """Every two disks of the families that stand it have a plan, and it is accepted and run."""
+    for code in (second.liberation(3, 3), second.liberation(5, 4), second.row_diagonal(5), second.evenodd(3)):
+        sheet, stripe = sheet_of(code), second.encoding(code, 3, random_bytes(3 * code.data_symbols))
+        for pair in combinations(range(code.disks), 2):
+            plan = test_plan(sheet, for_disks(bytes(pair)), SET_BUFFER)
+            assert plan
+            test_check_disks(sheet, bytes(pair), plan)
+            test_rebuild_disks(sheet, bytes(pair), plan, 3, stripe)
 
 
 def main() -> None:
@@ -176,6 +246,8 @@ def main() -> None:
         test_array(code)
     for _ in range(60):
         test_array(random_code(2 + below(4), 1 + below(4), 1 + below(8)))
+    test_large_disks()
+    test_two_losses()
     print(f"the C interface: {calls} calls answer as the second program")
 
 

@@ -12,7 +12,7 @@ from records import Vectors
 from second import SQUARE, Code, changed, liberation, row_diagonal, single_parity
 from second_checker import ADD, CLEAR, COPY, P2, ROW_1, STEP_LIMIT, Step, lost_places, plan_sheet, read_count
 
-SQUARE_ROW = Plan(SQUARE, 0, SQUARE_PLAN.steps[2:], [1])
+SQUARE_ROW = Plan(SQUARE, [0], SQUARE_PLAN.steps[2:], [1])
 """Row 1 alone of P2; its sheet is ROW_1."""
 
 OUTER_ROWS = direct_plan(single_parity(2, 3), 1, [3, 5])
@@ -29,14 +29,14 @@ def either_plan(code: Code, disk: int, listed: Sequence[int]) -> Optional[Plan]:
 def add_accepted_lists(vectors: Vectors) -> None:
     for code in family_codes():
         for disk in some_disks(code):
-            add_accepted(vectors, "list, families", either_plan(code, disk, chosen(some_lists(code, disk))))
+            add_accepted(vectors, "list, families", either_plan(code, disk, chosen(some_lists(code, [disk]))))
     for code in SPECIAL_CODES + random_codes():
         for disk in some_disks(code)[:2]:
-            add_accepted(vectors, "list, other codes", either_plan(code, disk, chosen(some_lists(code, disk))))
+            add_accepted(vectors, "list, other codes", either_plan(code, disk, chosen(some_lists(code, [disk]))))
     for code, disk in planted_codes()[::2]:
-        add_accepted(vectors, "list, planted codes", either_plan(code, disk, chosen(some_lists(code, disk))))
+        add_accepted(vectors, "list, planted codes", either_plan(code, disk, chosen(some_lists(code, [disk]))))
     for code, disk in torn_codes(20):
-        can = restorable(code, disk)
+        can = restorable(code, [disk])
         add_accepted(vectors, "list, torn disk", chained_plan(code, disk, can))
         add_accepted(vectors, "list, torn disk", direct_plan(code, disk, can[:1]))
 
@@ -94,9 +94,9 @@ def add_list_counts(vectors: Vectors) -> None:
         for count in (0, 1, height, height + 1, height + 2, 65, 129, 255):
             listed = (lost + list(range(lost[-1] + 1, 256)) + lost * 8)[:count]
             add(vectors, kind, with_list(plan, listed))
-            vectors.check(kind, plan.code_sheet, plan.disk, changed(plan.sheet(), 7, count))
-            vectors.check(kind, plan.code_sheet, plan.disk, changed(plan.sheet(), 7, count) + bytes(300))
-            vectors.check(kind, plan.code_sheet, plan.disk, with_list(plan, listed).sheet()[: 9 + count])
+            vectors.check(kind, plan.code_sheet, plan.disks, changed(plan.sheet(), 7, count))
+            vectors.check(kind, plan.code_sheet, plan.disks, changed(plan.sheet(), 7, count) + bytes(300))
+            vectors.check(kind, plan.code_sheet, plan.disks, with_list(plan, listed).sheet()[: 9 + count])
 
 
 def add_lists_before_and_behind(vectors: Vectors) -> None:
@@ -107,10 +107,10 @@ def add_lists_before_and_behind(vectors: Vectors) -> None:
         sheet = plan.sheet()
         at = 8 + len(listed)
         for count in (0, 1, 3, STEP_LIMIT, STEP_LIMIT + 1, 65535):
-            vectors.check(kind, SQUARE_SHEET, 0, sheet[:at] + count.to_bytes(2, "little") + sheet[at + 2 :])
-        vectors.check(kind, SQUARE_SHEET, 0, sheet + b"\0")
-        vectors.check(kind, SQUARE_SHEET, 0, sheet[:-1])
-        vectors.check(kind, SQUARE_SHEET, 0, sheet[: at + 1])
+            vectors.check(kind, SQUARE_SHEET, [0], sheet[:at] + count.to_bytes(2, "little") + sheet[at + 2 :])
+        vectors.check(kind, SQUARE_SHEET, [0], sheet + b"\0")
+        vectors.check(kind, SQUARE_SHEET, [0], sheet[:-1])
+        vectors.check(kind, SQUARE_SHEET, [0], sheet[: at + 1])
         add(vectors, kind, plan.with_steps([Step(3, 255, 255)] * 2))
         add(vectors, kind, plan, 9)
     add(vectors, kind, with_list(SQUARE_ROW, [1, 0]).with_steps([Step(COPY, 1, 1)] * (STEP_LIMIT + 1)))
@@ -125,14 +125,17 @@ def add_list_heads(vectors: Vectors) -> None:
         sheet = plan.sheet()
         for at, right in enumerate(sheet[:9]):
             for value in sorted({(right + 255) % 256, (right + 1) % 256, 128, 255}):
-                vectors.check(kind, plan.code_sheet, plan.disk, changed(sheet, at, value))
+                vectors.check(kind, plan.code_sheet, plan.disks, changed(sheet, at, value))
         for edition in (0, 1, 3, 4, 255):
-            vectors.check(kind, plan.code_sheet, plan.disk, changed(sheet, 1, edition))
-            vectors.check(kind, plan.code_sheet, plan.disk, changed(with_list(plan, None).sheet(), 1, edition))
-            vectors.check(kind, plan.code_sheet, plan.disk, bytes([6, edition]) + bytes(7))
-        for disk in sorted({0, 1, 2, plan.code.disks, 256 + plan.disk, 2**32 + plan.disk, 2**64 - 1}):
-            vectors.check(kind, plan.code_sheet, disk, sheet)
-            vectors.check(kind, plan.code_sheet, disk, changed(sheet, 5, disk % 256))
+            vectors.check(kind, plan.code_sheet, plan.disks, changed(sheet, 1, edition))
+            vectors.check(kind, plan.code_sheet, plan.disks, changed(with_list(plan, None).sheet(), 1, edition))
+            vectors.check(kind, plan.code_sheet, plan.disks, bytes([6, edition]) + bytes(7))
+        for disk in sorted({0, 1, 2, plan.code.disks}):
+            vectors.check(kind, plan.code_sheet, [disk], sheet)
+            vectors.check(kind, plan.code_sheet, [disk], changed(sheet, 5, disk))
+        for disks in ([], [plan.disk] * 2, sorted([plan.disk, 2])):
+            vectors.check(kind, plan.code_sheet, disks, sheet)
+            vectors.check(kind, plan.code_sheet, disks, sheet[:8])
 
 
 def add_list_lengths(vectors: Vectors) -> None:
@@ -140,9 +143,9 @@ def add_list_lengths(vectors: Vectors) -> None:
     for plan in (SQUARE_ROW, OUTER_ROWS):
         sheet = plan.sheet()
         for length in range(len(sheet)):
-            vectors.check(kind, plan.code_sheet, plan.disk, sheet[:length])
+            vectors.check(kind, plan.code_sheet, plan.disks, sheet[:length])
         for more in (1, 2, 3, 4, 3114 - len(sheet), 3115 - len(sheet)):
-            vectors.check(kind, plan.code_sheet, plan.disk, sheet + random_bytes(more))
+            vectors.check(kind, plan.code_sheet, plan.disks, sheet + random_bytes(more))
 
 
 def add_list_step_limit(vectors: Vectors) -> None:
@@ -155,7 +158,7 @@ def add_list_step_limit(vectors: Vectors) -> None:
         add(vectors, kind, full.with_steps(full.steps[:-1] + [Step(ADD, plan.wanted[0], plan.survivors[0])]))
         add(vectors, kind, lengthened(plan, STEP_LIMIT + 1))
         for other in (sheet[:-1], sheet + b"\0"):
-            vectors.check(kind, plan.code_sheet, plan.disk, other)
+            vectors.check(kind, plan.code_sheet, plan.disks, other)
 
 
 def add_list_pairs(vectors: Vectors) -> None:
@@ -167,11 +170,11 @@ def add_list_pairs(vectors: Vectors) -> None:
     ends.append(length_fault(lambda s: s[:10] + b"\2\0" + s[12:18]))
     lengths = [length_fault(change) for change in (lambda s: s + b"\1", lambda s: s[:22], lambda s: s[:11], lambda s: s[:8])]
     calls: list[Callable[[Asked], Asked]] = [
-        lambda asked: asked._replace(disk=3),
+        lambda asked: asked._replace(disks=[3]),
         lambda asked: asked._replace(code_sheet=asked.code_sheet[:-1]),
     ]
     for one, other in combinations(calls + head + steps + ends + lengths, 2):
-        vectors.check("list, two faults", *other(one(Asked(OUTER_ROWS.code_sheet, 1, sheet))))
+        vectors.check("list, two faults", *other(one(Asked(OUTER_ROWS.code_sheet, [1], sheet))))
 
 
 # Steps
@@ -183,7 +186,7 @@ def add_list_bytes_changed(vectors: Vectors) -> None:
         sheet = plan.sheet()
         for at, byte in enumerate(sheet):
             for value in sorted({(byte + 1) % 256, (byte + 255) % 256, byte ^ 4}):
-                vectors.check(kind, plan.code_sheet, plan.disk, changed(sheet, at, value))
+                vectors.check(kind, plan.code_sheet, plan.disks, changed(sheet, at, value))
 
 
 def add_unwanted_places(vectors: Vectors) -> None:
@@ -202,25 +205,25 @@ def add_list_ends(vectors: Vectors) -> None:
     """Every way in which the wanted rows of three are right, wrong or never filled: 20 and 21 name the row, not the position."""
     kind = "list, rows wrong or unfilled"
     code = single_parity(1, 3)
-    for listed in all_lists(code, 1):
+    for listed in all_lists(code, [1]):
         for fates in product((RIGHT, WRONG, UNFILLED), repeat=len(listed)):
             filled = [(place, shift) for place, shift in zip(listed, fates) if shift != UNFILLED]
-            add(vectors, kind, Plan(code, 1, [Step(COPY, place, (place + shift) % 3) for place, shift in filled], listed))
+            add(vectors, kind, Plan(code, [1], [Step(COPY, place, (place + shift) % 3) for place, shift in filled], listed))
     tall = direct_plan(single_parity(1, 32), 1, [33, 47, 63])
     for place in tall.wanted:
         add(vectors, kind, tall.with_steps(step for step in tall.steps if step.target != place))
         add(vectors, kind, tall.with_steps(tall.steps + [Step(ADD, place, 5)]))
     for code, disk in torn_codes(8):
-        place = next(place for place in lost_places(code, disk) if place not in restorable(code, disk))
-        plan = Plan(code, disk, [], [place])
+        place = next(place for place in lost_places(code, [disk]) if place not in restorable(code, [disk]))
+        plan = Plan(code, [disk], [], [place])
         add(vectors, kind, plan.with_steps([Step(COPY, place, chosen(plan.survivors))]))
 
 
 def add_list_read_counts(vectors: Vectors) -> None:
     kind = "list, read count"
-    plans = [SQUARE_ROW, OUTER_ROWS, direct_plan(single_parity(1, 32), 1, [40, 41]), Plan(Code(2, 2, 1, (1, 0, 1, 1)), 0, [Step(CLEAR, 1, 0)], [1])]
+    plans = [SQUARE_ROW, OUTER_ROWS, direct_plan(single_parity(1, 32), 1, [40, 41]), Plan(Code(2, 2, 1, (1, 0, 1, 1)), [0], [Step(CLEAR, 1, 0)], [1])]
     for plan in plans:
-        true = read_count(plan.code, plan.disk, plan.steps)
+        true = read_count(plan.code, plan.disks, plan.steps)
         for stated in sorted({0, max(true - 1, 0), true, true + 1, len(plan.steps), 64, 255}):
             add(vectors, kind, plan, stated)
 
@@ -233,7 +236,7 @@ def add_list_short_plans(vectors: Vectors) -> None:
     for listed, count in product(([0], [1], [0, 1]), range(3)):
         for some in product(steps, repeat=count):
             if count < 2 or below(3) == 0:
-                add(vectors, "list, short plans", Plan(code, 0, list(some), listed))
+                add(vectors, "list, short plans", Plan(code, [0], list(some), listed))
 
 
 def add_list_random(vectors: Vectors) -> None:
@@ -242,12 +245,12 @@ def add_list_random(vectors: Vectors) -> None:
         code = random_code(2 + below(3), 1 + below(4), 1 + below(8))
         disk = below(code.disks)
         steps = [random_step(code, disk) for _ in range(1 + below(8))]
-        add(vectors, kind, Plan(code, disk, steps, chosen(all_lists(code, disk))))
+        add(vectors, kind, Plan(code, [disk], steps, chosen(all_lists(code, [disk]))))
     for turn in range(40):
         listed = bytes(below((9, 3)[turn % 2]) for _ in range(below(4)))
         rest = bytes([below(4), 0]) + random_bytes(below(12))
-        vectors.check(kind, SQUARE_SHEET, below(3), ROW_1[:5] + bytes([below(3), below(4), len(listed)]) + listed + rest)
-        vectors.check(kind, SQUARE_SHEET, 0, b"\6\2" + ROW_1[2 : 2 + below(8)] + random_bytes(below(40)))
+        vectors.check(kind, SQUARE_SHEET, [below(3)], ROW_1[:5] + bytes([below(3), below(4), len(listed)]) + listed + rest)
+        vectors.check(kind, SQUARE_SHEET, [0], b"\6\2" + ROW_1[2 : 2 + below(8)] + random_bytes(below(40)))
 
 
 # Desk and rebuild
@@ -270,7 +273,7 @@ def add_list_desk(vectors: Vectors) -> None:
         vectors.desk("list, desk, long plan", desk_input(0, SQUARE_SHEET, plan))
     for code in SPECIAL_CODES + [liberation(5, 5), row_diagonal(7)]:
         for disk, reads in product(sorted({0, code.disks - 1}), (None, 64)):
-            plan = direct_plan(code, disk, chosen(some_lists(code, disk)))
+            plan = direct_plan(code, disk, chosen(some_lists(code, [disk])))
             if plan is not None:
                 vectors.desk("list, desk, plans", desk_input(disk, plan.code_sheet, plan.sheet(reads)))
 
@@ -280,22 +283,22 @@ def add_both_ways(vectors: Vectors, plan: Optional[Plan], size: int) -> None:
     if plan is not None:
         ruin = chosen([None, None, 0, 255])
         for kind, valid in (("list, rebuild, valid stripe", True), ("list, rebuild, other stripe", False)):
-            vectors.rebuild(kind, plan.code_sheet, plan.disk, plan.sheet(), size, valid=valid, ruin=ruin)
+            vectors.rebuild(kind, plan.code_sheet, plan.disks, plan.sheet(), size, valid=valid, ruin=ruin)
 
 
 def add_list_rebuilds(vectors: Vectors) -> None:
     asked = [(code, disk) for code in family_codes() for disk in some_disks(code)[:2]] + planted_codes()[::3]
     for code, disk in asked:
-        plan = either_plan(code, disk, chosen(some_lists(code, disk)[:2]))
+        plan = either_plan(code, disk, chosen(some_lists(code, [disk])[:2]))
         if plan is not None:
             add_both_ways(vectors, plan, min(fitting_size(plan), 4096))
     for code, disk in torn_codes(10):
-        add_both_ways(vectors, chained_plan(code, disk, restorable(code, disk)), 1 + below(20))
+        add_both_ways(vectors, chained_plan(code, disk, restorable(code, [disk])), 1 + below(20))
     for size in SIZES[:-1]:
         add_both_ways(vectors, SQUARE_ROW, size)
     for code in (SQUARE, liberation(3, 2)):
         for disk in range(code.disks):
-            for listed in all_lists(code, disk):
+            for listed in all_lists(code, [disk]):
                 add_both_ways(vectors, chained_plan(code, disk, listed), 3)
     for start in idle_starts(OUTER_ROWS):
         add_both_ways(vectors, OUTER_ROWS.with_steps(start + OUTER_ROWS.steps), 5)
@@ -304,21 +307,21 @@ def add_list_rebuilds(vectors: Vectors) -> None:
 def add_list_rebuilds_refused(vectors: Vectors) -> None:
     kind = "list, rebuild refused"
     for at in range(len(ROW_1)):
-        vectors.rebuild(kind, SQUARE_SHEET, 0, changed(ROW_1, at, ROW_1[at] + 1), 2)
+        vectors.rebuild(kind, SQUARE_SHEET, [0], changed(ROW_1, at, ROW_1[at] + 1), 2)
     for size, length in [(0, 8), (65537, 8), (2**63, 0), (1, 7), (1, 9), (3, 16), (0, 7)]:
-        vectors.rebuild(kind, SQUARE_SHEET, 0, ROW_1, size, length=length)
+        vectors.rebuild(kind, SQUARE_SHEET, [0], ROW_1, size, length=length)
     for plan, size, length in [(ROW_1[:-1], 0, 8), (ROW_1 + b"\0", 1, 7), (changed(ROW_1, 8, 2), 0, 8), (changed(ROW_1, 7, 0), 1, 9)]:
-        vectors.rebuild(kind, SQUARE_SHEET, 0, plan, size, length=length)
+        vectors.rebuild(kind, SQUARE_SHEET, [0], plan, size, length=length)
     for code, other in [(SQUARE, row_diagonal(3)), (row_diagonal(3), SQUARE)]:
         for disk in range(code.disks):
             sheet = direct_plan(code, disk, [disk * 2 + 1]).sheet()
-            vectors.rebuild("list, rebuild under another code", Plan(other, disk, []).code_sheet, disk, sheet, 4, valid=True)
+            vectors.rebuild("list, rebuild under another code", Plan(other, [disk], []).code_sheet, [disk], sheet, 4, valid=True)
 
 
 def add_edition_2_vectors(vectors: Vectors) -> None:
-    vectors.check("list, square code", SQUARE_SHEET, 0, ROW_1)
-    vectors.check("list, square code", SQUARE_SHEET, 0, plan_sheet(SQUARE, 0, SQUARE_PLAN.steps, listed=[0, 1]))
-    vectors.check("list, square code", SQUARE_SHEET, 0, P2)
+    vectors.check("list, square code", SQUARE_SHEET, [0], ROW_1)
+    vectors.check("list, square code", SQUARE_SHEET, [0], plan_sheet(SQUARE, 0, SQUARE_PLAN.steps, listed=[0, 1]))
+    vectors.check("list, square code", SQUARE_SHEET, [0], P2)
     add_accepted_lists(vectors)
     add_longer_ways(vectors)
     add_bad_entries(vectors)

@@ -16,9 +16,10 @@ import second
 from arrays import SMALLEST, SPECIAL_CODES, below, random_bytes, random_code, random_codes, random_row
 from desk_vectors import add_desk_vectors
 from edition2_vectors import add_edition_2_vectors
+from edition3_vectors import add_edition_3_vectors
 from plan_vectors import add_plan_vectors
 from plans import direct_plan
-from planner_vectors import Questions, add_list_questions, add_planning_questions
+from planner_vectors import Questions, add_list_questions, add_planning_questions, add_set_questions
 from rebuild_vectors import add_rebuild_vectors
 from records import ROOM, Vectors
 from second import Code, changed
@@ -311,10 +312,10 @@ def add_old_row_diagonal(vectors: Vectors, questions: Questions) -> None:
         questions.add_code(kind, before)
         for disk in range(before.disks):
             plan = direct_plan(before, disk)
-            vectors.check(kind, sheet, disk, plan.sheet())
-            vectors.rebuild(kind, sheet, disk, plan.sheet(), 3, valid=True)
-            vectors.rebuild(kind, second.sheet_of(after), disk, plan.sheet(), 3, valid=True)
-            vectors.rebuild(kind, sheet, disk, direct_plan(after, disk).sheet(), 3, valid=True)
+            vectors.check(kind, sheet, [disk], plan.sheet())
+            vectors.rebuild(kind, sheet, [disk], plan.sheet(), 3, valid=True)
+            vectors.rebuild(kind, second.sheet_of(after), [disk], plan.sheet(), 3, valid=True)
+            vectors.rebuild(kind, sheet, [disk], direct_plan(after, disk).sheet(), 3, valid=True)
 
 
 def all_vectors() -> tuple[Vectors, Questions]:
@@ -337,10 +338,12 @@ def all_vectors() -> tuple[Vectors, Questions]:
     add_rebuild_vectors(vectors)
     questions = Questions()
     add_planning_questions(questions)
-    # The records with lists come last, so that none of the others depends on them.
+    # The records of a later edition come after those of all before it, so that none of these depends on them.
     add_edition_2_vectors(vectors)
     add_list_questions(questions)
     add_old_row_diagonal(vectors, questions)
+    add_edition_3_vectors(vectors)
+    add_set_questions(questions)
     return vectors, questions
 
 

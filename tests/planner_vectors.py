@@ -1,14 +1,16 @@
-"""The records of planning: every family, codes of every shape that can and can't be rebuilt, lists of wanted symbols, and every refusal."""
+"""The records of planning: every family, codes of every shape that can and can't be rebuilt, lists of wanted symbols, sets of disks, and
+every refusal."""
 from collections import Counter
-from itertools import product
+from itertools import combinations, product
 from typing import Iterable, Optional
 
 from arrays import SMALLEST, SPECIAL_CODES, below, chosen, low_rank_code, random_bytes, random_code, random_codes
 from plan_vectors import family_codes, planted_codes, some_disks
-from plans import all_lists, restorable, some_lists, torn_codes
-from second import SQUARE, Code, changed, evenodd, liberation, row_diagonal, sheet_of, single_parity
-from second_checker import lost_places
-from second_planner import BUFFER, HALF, LIST_BUFFER, P8, P9, Asked, most_steps
+from edition3_vectors import ASKED_SETS, COPIES, EVERY, LONGER_SETS, ZEROS, all_sets, any_set
+from plans import all_lists, planted_code, restorable, some_lists, torn_codes
+from second import SQUARE, Code, changed, evenodd, liberation, row_diagonal, row_diagonal_before, sheet_of, single_parity
+from second_checker import Disks, lost_places
+from second_planner import BUFFER, HALF, LIST_BUFFER, P8, P9, SET_BUFFER, Asked, for_disk, for_disks, most_steps
 
 SHOWN_STEPS = 16
 """Plans are shown where no plan has more steps."""
@@ -29,8 +31,8 @@ class Questions:
         self.kinds[kind] += asked.count
 
     def add_code(self, kind: str, code: Code, disks: Optional[list[int]] = None, **more: int) -> None:
-        """About some disks, or about all in one record."""
-        more = {"shown": most_steps(code) <= SHOWN_STEPS, **more}
+        """About some disks one by one, or about each in one record."""
+        more = {"shown": most_steps(code, for_disk(0)) <= SHOWN_STEPS, **more}
         if disks is None:
             self.add(kind, sheet_of(code), 0, count=code.disks, **more)
         for disk in disks or []:
@@ -41,7 +43,16 @@ class Questions:
 
     def add_lists(self, kind: str, code: Code, disk: int, lists: Iterable[Iterable[int]], **more: int) -> None:
         for listed in lists:
-            self.add_list(kind, sheet_of(code), disk, listed, **{"shown": most_steps(code) <= SHOWN_STEPS, **more})
+            shown = most_steps(code, for_disk(disk, listed)) <= SHOWN_STEPS
+            self.add_list(kind, sheet_of(code), disk, listed, **{"shown": shown, **more})
+
+    def add_set(self, kind: str, sheet: bytes, disks: Disks, listed: Iterable[int] = (), **more: int) -> None:
+        self.add(kind, sheet, 0, **{"buffer_length": SET_BUFFER, "listed": bytes(listed), "disks": bytes(disks), **more})
+
+    def add_sets(self, kind: str, code: Code, sets: Iterable[Disks], listed: Iterable[int] = (), **more: int) -> None:
+        for disks in sets:
+            shown = most_steps(code, for_disks(disks)) <= SHOWN_STEPS
+            self.add_set(kind, sheet_of(code), disks, listed, **{"shown": shown, **more})
 
 
 # Codes that can be rebuilt
@@ -206,17 +217,17 @@ def add_planning_questions(questions: Questions) -> None:
 def add_lists_of_families(questions: Questions) -> None:
     for code in (SQUARE, P8, P9):
         for disk in range(code.disks):
-            questions.add_lists("list, worked cases", code, disk, all_lists(code, disk))
+            questions.add_lists("list, worked cases", code, disk, all_lists(code, [disk]))
     for code in family_codes():
         for disk in sorted({0, code.disks - 1}):
             length = chosen([LIST_BUFFER, LIST_BUFFER + 1, 4096])
-            questions.add_lists("list, families", code, disk, [chosen(some_lists(code, disk))], buffer_length=length)
+            questions.add_lists("list, families", code, disk, [chosen(some_lists(code, [disk]))], buffer_length=length)
 
 
 def add_torn_disks(questions: Questions) -> None:
     """Disks that can be rebuilt in part: every row alone, all that can be, those and one more, the whole disk with a list and without."""
     for code, disk in torn_codes(20):
-        can, lost = restorable(code, disk), list(lost_places(code, disk))
+        can, lost = restorable(code, [disk]), lost_places(code, [disk])
         more = sorted(can + [chosen([place for place in lost if place not in can])])
         questions.add_lists("list, torn disk", code, disk, [[place] for place in lost] + [can, more, lost], shown=True)
         questions.add("list, torn disk, none given", sheet_of(code), disk)
@@ -227,19 +238,19 @@ def add_lists_of_small_codes(questions: Questions) -> None:
     for _ in range(16):
         code = random_code(2 + below(3), 1 + below(3), 1 + below(7))
         disk = below(code.disks)
-        questions.add_lists("list, small codes", code, disk, all_lists(code, disk), shown=True)
+        questions.add_lists("list, small codes", code, disk, all_lists(code, [disk]), shown=True)
     for _ in range(12):
         code = low_rank_code(2 + below(3), 2 + below(2), 1 + below(64))
         disk = below(code.disks)
-        questions.add_lists("list, small codes of low rank", code, disk, all_lists(code, disk), shown=True)
+        questions.add_lists("list, small codes of low rank", code, disk, all_lists(code, [disk]), shown=True)
 
 
 def add_lists_of_large_codes(questions: Questions) -> None:
     for code in [low_rank_code(16, 4, 64), low_rank_code(2, 32, 40), random_code(2, 32, 33), random_code(3, 21, 42)]:
-        questions.add_lists("list, large codes", code, 0, some_lists(code, 0))
-        questions.add_lists("list, large codes", code, code.disks - 1, some_lists(code, code.disks - 1)[:1])
+        questions.add_lists("list, large codes", code, 0, some_lists(code, [0]))
+        questions.add_lists("list, large codes", code, code.disks - 1, some_lists(code, [code.disks - 1])[:1])
     for code, disk in planted_codes()[::2]:
-        questions.add_lists("list, planted codes", code, disk, some_lists(code, disk)[:1])
+        questions.add_lists("list, planted codes", code, disk, some_lists(code, [disk])[:1])
     survivors, lost = tuple(2**bit for bit in range(32)), (2**32 - 1,) * 32
     questions.add_lists("list, longest plan", Code(2, 32, 32, lost + survivors), 0, [range(32), range(31)], shown=True)
     questions.add_lists("list, longest plan", Code(2, 32, 32, survivors + lost), 1, [range(32, 64), range(33, 64, 2)])
@@ -248,7 +259,7 @@ def add_lists_of_large_codes(questions: Questions) -> None:
 def add_bad_lists(questions: Questions) -> None:
     """Each position of 23: an entry that doesn't rise, or isn't on the disk. Then counts at their limits, and beyond those of a byte."""
     code, disk = single_parity(3, 5), 2
-    good, sheet = list(lost_places(code, disk)), sheet_of(code)
+    good, sheet = lost_places(code, [disk]), sheet_of(code)
     for position in range(5):
         for entry in sorted({0, good[0] - 1, good[-1] + 1, good[position - 1], good[0], code.symbols, 255} - {good[position]}):
             questions.add_list("list, bad entry", sheet, disk, good[:position] + [entry] + good[position + 1 :])
@@ -256,7 +267,7 @@ def add_bad_lists(questions: Questions) -> None:
     for bad in [good[::-1], [good[1]] + good[:4], good[:2] + good[:3], [255] * 5, [0] * 5]:
         questions.add_list("list, bad entry", sheet, disk, bad)
     for code, disk in [(SQUARE, 1), (single_parity(1, 32), 1), (P8, 0), (HALF, 1)]:
-        lost = list(lost_places(code, disk))
+        lost = lost_places(code, [disk])
         for listed in ([], lost + lost[-1:], lost + [lost[-1] + 1], [0] + lost):
             questions.add_list("list, count at a limit", sheet_of(code), disk, listed)
     for count in (33, 64, 255, 256, 257, 258, 300, 513):
@@ -268,7 +279,7 @@ def add_bad_lists(questions: Questions) -> None:
 
 def add_list_refusals(questions: Questions) -> None:
     for code, disk in [(SQUARE, 1), (P8, 0), (random_code(2, 32, 20), 1)]:
-        lost = lost_places(code, disk)
+        lost = lost_places(code, [disk])
         for length in (0, 3080, 3081, 3113, 3114, 3115, 4096):
             questions.add_list("list, buffer at a limit", sheet_of(code), disk, lost[-1:], buffer_length=length)
     square = sheet_of(SQUARE)
@@ -284,3 +295,115 @@ def add_list_questions(questions: Questions) -> None:
     add_lists_of_large_codes(questions)
     add_bad_lists(questions)
     add_list_refusals(questions)
+
+
+# Sets of disks
+
+
+def pairs(code: Code) -> list[Disks]:
+    return list(combinations(range(code.disks), 2))
+
+
+def add_two_losses(questions: Questions) -> None:
+    """Any two disks of every family with two parities, at every parameter. Of the row-diagonal rule as it was before, not all."""
+    for w, k in [(w, k) for w in (3, 5, 7) for k in range(2, w + 1)]:
+        questions.add_sets("set, any two of Liberation", liberation(w, k), pairs(liberation(w, k)))
+    for p in (3, 5, 7):
+        questions.add_sets("set, any two of row-diagonal", row_diagonal(p), pairs(row_diagonal(p)))
+        questions.add_sets("set, any two of EVENODD", evenodd(p), pairs(evenodd(p)))
+    for p in (3, 5):
+        questions.add_sets("set, row-diagonal as before", row_diagonal_before(p), pairs(row_diagonal_before(p)))
+
+
+def add_sets_of_families(questions: Questions) -> None:
+    """Every set of small arrays; of families one disk, three disks, and lists over several disks."""
+    for code in (SQUARE, P8, P9, COPIES, row_diagonal(3)):
+        questions.add_sets("set, worked cases", code, all_sets(code), shown=True)
+    for listed in all_lists(SQUARE, [0, 2]):
+        questions.add_set("set, worked cases", sheet_of(SQUARE), [0, 2], listed, shown=True)
+    for listed, disks in product(([], [0], [1], [0, 1]), ([0], [1], [0, 1])):
+        questions.add_set("set, worked cases", sheet_of(P9), disks, listed, shown=True)
+    for code in family_codes():
+        for disks in ([code.disks - 1], sorted({0, code.disks // 2, code.disks - 1}), sorted({below(code.disks), below(code.disks)})):
+            length = chosen([SET_BUFFER, SET_BUFFER + 1, 4096])
+            listed = chosen([[]] + some_lists(code, disks))
+            questions.add_set("set, families", sheet_of(code), disks, listed, buffer_length=length)
+    for code, disks in [(liberation(5, 5), [0, 6]), (liberation(7, 7), [2, 3]), (evenodd(7), [0, 7]), (row_diagonal(7), [1, 6])]:
+        questions.add_set("set, large codes, shown", sheet_of(code), disks, chosen([[]] + some_lists(code, disks)), shown=True)
+
+
+def add_torn_sets(questions: Questions) -> None:
+    """Sets that can be rebuilt in part: what can be, that and one more, everything with a list and without."""
+    for turn in range(30):
+        disks, height = 3 + below(3), 1 + below(3)
+        code = chosen([random_code, low_rank_code])(disks, height, 1 + below(disks * height - 1))
+        lost_disks = any_set(code)
+        can, lost = restorable(code, lost_disks), lost_places(code, lost_disks)
+        more = sorted(set(can + [chosen(lost)]))
+        for listed in [[], lost] + ([can] if can else []) + [more, [chosen(lost)]]:
+            questions.add_set("set, torn", sheet_of(code), lost_disks, listed, shown=turn % 2 == 0)
+
+
+def add_sets_of_large_codes(questions: Questions) -> None:
+    for disks, height, data_symbols, lost in [
+        (64, 1, 64, range(1, 64, 2)),
+        (64, 1, 40, [0, 31, 63]),
+        (16, 4, 33, [3, 4, 5, 12]),
+        (8, 8, 64, [0, 7]),
+        (31, 2, 48, range(12)),
+    ]:
+        code = planted_code(disks, height, data_symbols, lost)
+        for listed in [[]] + some_lists(code, lost)[1:]:
+            questions.add_set("set, planted codes", sheet_of(code), lost, listed)
+    for code in (random_code(64, 1, 33), random_code(8, 8, 40), low_rank_code(16, 4, 64), random_code(4, 16, 32)):
+        for disks in (any_set(code), range(code.disks // 2), range(1, code.disks), range(code.disks)):
+            questions.add_set("set, large codes", sheet_of(code), disks)
+    survivors, lost = tuple(2**bit for bit in range(32)), (2**32 - 1,) * 32
+    questions.add_set("set, longest plan", sheet_of(Code(4, 16, 32, lost + survivors)), [0, 1], shown=True)
+    questions.add_set("set, longest plan", sheet_of(Code(4, 16, 32, survivors + lost)), [2, 3], range(32, 64))
+    questions.add_set("set, longest plan", sheet_of(Code(64, 1, 32, survivors + lost)), range(32, 64), range(32, 64))
+
+
+def add_all_lost(questions: Questions) -> None:
+    """Nothing survives: a plan exists exactly if every wanted row is zero, and it only clears."""
+    kind = "set, nothing survives"
+    nearly = ZEROS._replace(rows=(0,) * 40 + (1,) + (0,) * 23)
+    for code, listed in [(ZEROS, []), (ZEROS, EVERY), (ZEROS, [63]), (nearly, []), (nearly, EVERY), (nearly, EVERY[:40]), (nearly, EVERY[40:])]:
+        questions.add_set(kind, sheet_of(code), EVERY, listed, shown=True)
+    for code in (SQUARE, P8, P9, HALF, Code(2, 1, 1, (0, 0)), Code(3, 2, 5, (0, 31, 0, 31, 16, 0)), Code(2, 32, 64, (0,) * 63 + (2**63,))):
+        zero = [place for place, row in enumerate(code.rows) if row == 0]
+        for listed in [[], list(range(code.symbols)), zero, zero[:1], [code.symbols - 1]]:
+            questions.add_set(kind, sheet_of(code), range(code.disks), listed, shown=True)
+    questions.add_set(kind, sheet_of(Code(64, 1, 1, (1,) * 64)), EVERY[1:], shown=True)
+
+
+def add_bad_sets(questions: Questions) -> None:
+    """7, 24, 23 and 34 of sets, at both sides of each limit, and each with each."""
+    square = sheet_of(SQUARE)
+    for disks in ASKED_SETS + LONGER_SETS:
+        questions.add_set("set, asked", square, disks)
+    for disks in (EVERY, EVERY[::-1], EVERY + [63], EVERY + [64], EVERY[:63] + [62], EVERY[:63] + [64]):
+        questions.add_set("set, asked", sheet_of(ZEROS), disks)
+    good = lost_places(SQUARE, [0, 2])
+    for position in range(4):
+        for entry in sorted({0, 1, 2, 3, 4, 5, 6, 7, 8, 255} - {good[position]}):
+            questions.add_set("set, bad entry", square, [0, 2], good[:position] + [entry] + good[position + 1 :])
+    for listed in (good + [5], good + [6], good[::-1], [0] * 64, [0] * 65, [0] * 255, [0] * 256, [0] * 300, range(256), [1] * 512):
+        questions.add_set("set, count of a list", square, [0, 2], listed)
+    for code, disks in [(SQUARE, [0, 2]), (SQUARE, [0, 1]), (P8, [0, 1]), (ZEROS, EVERY), (COPIES, [3])]:
+        for length in (0, 3081, 3114, 3209, 3210, 3211, 4096):
+            questions.add_set("set, buffer at a limit", sheet_of(code), disks, buffer_length=length)
+    sheets = (square, square[:69], changed(square, 13, 128))
+    for sheet, disks, listed, length in product(sheets, ([0, 2], [0, 4], [2, 0], []), ([], [4, 0], [2]), (3210, 3209)):
+        questions.add_set("set, several faults", sheet, disks, listed, buffer_length=length)
+    for sheet in refused_sheets()[::4]:
+        questions.add_set("set, code sheet refused", sheet, [0, 0])
+
+
+def add_set_questions(questions: Questions) -> None:
+    add_sets_of_families(questions)
+    add_two_losses(questions)
+    add_torn_sets(questions)
+    add_sets_of_large_codes(questions)
+    add_all_lost(questions)
+    add_bad_sets(questions)

@@ -4,28 +4,34 @@ from typing import Iterable, NamedTuple, Optional, Sequence
 
 from arrays import below, chosen, random_code, shuffled
 from second import Code, sheet_of
-from second_checker import ADD, CLEAR, COPY, STEP_LIMIT, Listed, Step, lost_places, plan_sheet, wanted_symbols
+from second_checker import ADD, CLEAR, COPY, STEP_LIMIT, Disks, Listed, Step, lost_places, plan_sheet, set_sheet, wanted_symbols
 
 
 class Plan(NamedTuple):
-    """Steps for a disk of a code, or for the symbols of a list."""
+    """Steps for lost disks of a code, or for the symbols of a list. A sheet of edition 3 says that it is for a set, be it of one disk."""
 
     code: Code
-    disk: int
+    disks: Disks
     steps: list[Step]
     listed: Listed = None
+    for_set: bool = False
 
     @property
-    def lost(self) -> range:
-        return lost_places(self.code, self.disk)
+    def disk(self) -> int:
+        """The one disk of editions 1 and 2."""
+        return self.disks[0]
+
+    @property
+    def lost(self) -> list[int]:
+        return lost_places(self.code, self.disks)
 
     @property
     def wanted(self) -> Sequence[int]:
-        return wanted_symbols(self.code, self.disk, self.listed)
+        return wanted_symbols(self.code, self.disks, self.listed)
 
     @property
     def survivors(self) -> list[int]:
-        return survivors(self.code, self.disk)
+        return survivors(self.code, self.disks)
 
     @property
     def code_sheet(self) -> bytes:
@@ -33,14 +39,16 @@ class Plan(NamedTuple):
 
     def sheet(self, reads: Optional[int] = None) -> bytes:
         """The plan sheet; its read count is the true one if none is said."""
+        if self.for_set:
+            return set_sheet(self.code, self.disks, self.steps, reads, self.listed or ())
         return plan_sheet(self.code, self.disk, self.steps, reads, self.listed)
 
     def with_steps(self, steps: Iterable[Step]) -> "Plan":
         return self._replace(steps=list(steps))
 
 
-def survivors(code: Code, disk: int) -> list[int]:
-    return [symbol for symbol in range(code.symbols) if symbol // code.height != disk]
+def survivors(code: Code, disks: Disks) -> list[int]:
+    return [symbol for symbol in range(code.symbols) if symbol // code.height not in disks]
 
 
 # Elimination
@@ -75,56 +83,68 @@ def fill(target: int, sources: list[int], clear_first: bool = False) -> list[Ste
     return [Step(COPY, target, sources[0])] + [Step(ADD, target, source) for source in sources[1:]]
 
 
-def direct_plan(code: Code, disk: int, listed: Listed = None) -> Optional[Plan]:
+def direct(asked: Plan) -> Optional[Plan]:
     """Each wanted row from survivors alone, in order; nothing if there is no plan."""
-    wanted = wanted_symbols(code, disk, listed)
-    sums = [sources_of(code, place, survivors(code, disk)) for place in wanted]
+    sums = [sources_of(asked.code, place, asked.survivors) for place in asked.wanted]
     if None in sums:
         return None
-    steps = [fill(place, sources) for place, sources in zip(wanted, sums)]
-    return Plan(code, disk, sum(steps, []), listed)
+    steps = [fill(place, sources) for place, sources in zip(asked.wanted, sums)]
+    return asked.with_steps(sum(steps, []))
 
 
-def chained_plan(code: Code, disk: int, listed: Listed = None) -> Optional[Plan]:
+def chained(asked: Plan) -> Optional[Plan]:
     """Wanted rows in any order, each from those before it as far as they serve, and from survivors in any order."""
     steps: list[Step] = []
     filled: list[int] = []
-    for place in shuffled(wanted_symbols(code, disk, listed)):
-        sources = sources_of(code, place, filled + shuffled(survivors(code, disk)))
+    for place in shuffled(asked.wanted):
+        sources = sources_of(asked.code, place, filled + shuffled(asked.survivors))
         if sources is None:
             return None
         steps += fill(place, shuffled(sources), clear_first=below(3) == 0)
         filled.append(place)
-    return Plan(code, disk, steps, listed)
+    return asked.with_steps(steps)
 
 
-def planted_code(disks: int, height: int, data_symbols: int, disk: int) -> Code:
-    """A random code in which the rows of a disk are sums of a few others, so that it can be rebuilt at any K."""
+def direct_plan(code: Code, disk: int, listed: Listed = None) -> Optional[Plan]:
+    return direct(Plan(code, [disk], [], listed))
+
+
+def chained_plan(code: Code, disk: int, listed: Listed = None) -> Optional[Plan]:
+    return chained(Plan(code, [disk], [], listed))
+
+
+def of_set(code: Code, disks: Disks, listed: Sequence[int] = (), steps: Sequence[Step] = ()) -> Plan:
+    """A plan of edition 3; without steps it is what direct and chained are asked for."""
+    return Plan(code, disks, list(steps), listed, for_set=True)
+
+
+def planted_code(disks: int, height: int, data_symbols: int, lost_disks: Disks) -> Code:
+    """A random code in which the rows of some disks are sums of a few others, so that they can be rebuilt at any K."""
     code = random_code(disks, height, data_symbols)
     rows = list(code.rows)
-    for place in lost_places(code, disk):
+    for place in lost_places(code, lost_disks):
         rows[place] = 0
-        for symbol in shuffled(survivors(code, disk))[: below(5)]:
+        for symbol in shuffled(survivors(code, lost_disks))[: below(5)]:
             rows[place] ^= rows[symbol]
     return code._replace(rows=tuple(rows))
 
 
-def some_lists(code: Code, disk: int) -> list[list[int]]:
-    """One row of a disk, some rows and all rows, each list once."""
-    lost = lost_places(code, disk)
-    lists = [[chosen(lost)], sorted(shuffled(lost)[: 1 + below(len(lost))]), list(lost)]
+def some_lists(code: Code, disks: Disks) -> list[list[int]]:
+    """One lost symbol, some and all, each list once."""
+    lost = lost_places(code, disks)
+    lists = [[chosen(lost)], sorted(shuffled(lost)[: 1 + below(len(lost))]), lost]
     return [listed for number, listed in enumerate(lists) if listed not in lists[:number]]
 
 
-def all_lists(code: Code, disk: int) -> list[list[int]]:
-    """Every good list of a disk."""
-    lost = lost_places(code, disk)
+def all_lists(code: Code, disks: Disks) -> list[list[int]]:
+    """Every good list of lost symbols but the empty one."""
+    lost = lost_places(code, disks)
     return [list(listed) for count in range(1, len(lost) + 1) for listed in combinations(lost, count)]
 
 
-def restorable(code: Code, disk: int) -> list[int]:
+def restorable(code: Code, disks: Disks) -> list[int]:
     """The lost symbols that survivors sum to."""
-    return [place for place in lost_places(code, disk) if sources_of(code, place, survivors(code, disk)) is not None]
+    return [place for place in lost_places(code, disks) if sources_of(code, place, survivors(code, disks)) is not None]
 
 
 def torn_codes(count: int) -> list[tuple[Code, int]]:
@@ -134,7 +154,7 @@ def torn_codes(count: int) -> list[tuple[Code, int]]:
         disks, height = 2 + below(3), 2 + below(3)
         code = random_code(disks, height, disks * height - height + below(2))
         disk = below(disks)
-        if 0 < len(restorable(code, disk)) < height:
+        if 0 < len(restorable(code, [disk])) < height:
             found.append((code, disk))
     return found
 

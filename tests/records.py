@@ -11,7 +11,7 @@ import second_checker
 import second_desk
 import second_rebuild
 from second import Code, Refusal
-from second_checker import listed_in, wanted_symbols, with_symbols
+from second_checker import Disks, disks_refusal, listed_in, lost_places, wanted_symbols, with_symbols
 
 ROOM = 262144
 """The most bytes that a long input of a record has."""
@@ -97,52 +97,66 @@ class Vectors:
         numbers = [disk, size, length, seed, spare_length, seed + 1, symbol]
         self.add(kind, 4, numbers, sheet, shown(answer))
 
-    def check(self, kind: str, sheet: bytes, disk: int, plan: bytes) -> None:
-        answer = second_checker.check(sheet, disk, plan)
+    def check(self, kind: str, sheet: bytes, disks: Disks, plan: bytes) -> None:
+        answer = second_checker.check(sheet, disks, plan)
         line = refused(answer) if isinstance(answer, Refusal) else f"accepted reads {answer}"
-        self.add(kind, 5, [disk, len(sheet)], sheet + plan, line)
+        self.add(kind, 5, [len(disks), len(sheet)], bytes(disks) + sheet + plan, line)
 
     def rebuild(
         self,
         kind: str,
         sheet: bytes,
-        disk: int,
+        disks: Disks,
         plan: bytes,
         size: int,
         *,
         valid: bool = False,
         length: Optional[int] = None,
         ruin: Optional[int] = None,
+        ruined_disks: Optional[Disks] = None,
     ) -> None:
         """On a stripe of the length that the sheet asks for, or another one. A valid stripe is encoded from data first;
-        then the lost strip, or what of it there is, is ruined: with one byte throughout, or from a seed."""
+        then strips of lost disks, or what of them there is, are ruined: with one byte throughout, or from a seed. They are
+        those of some adjacent disks, the first adjacent ones of all if none are said."""
         seed = self.seed()
         code = second.read_code(sheet)
-        known = not isinstance(code, Refusal) and disk < code.disks and size <= ROOM
+        known = not isinstance(code, Refusal) and disks_refusal(code, disks) is None and size <= ROOM
         stripe_length = code.symbols * size if length is None else length
         data_length = code.data_symbols * size if valid else 0
         stripe = filled(stripe_length, seed)
         if valid:
             stripe = second.encoding(code, size, filled(data_length, seed + 1))
-        start = min(disk * code.height * size, stripe_length) if known else 0
-        end = min(start + code.height * size, stripe_length) if known else 0
+        places = lost_places(code, ruined_disks or adjacent(disks)[0]) if known else []
+        start = min(places[0] * size, stripe_length) if known else 0
+        end = min((places[-1] + 1) * size, stripe_length) if known else 0
         ruined = filled(end - start, seed + 2) if ruin is None else bytes([ruin]) * (end - start)
         before = stripe[:start] + ruined + stripe[end:]
-        refusal, after = second_rebuild.rebuild(sheet, disk, plan, size, before)
+        refusal, after = second_rebuild.rebuild(sheet, disks, plan, size, before)
         line = refused(refusal) if refusal else "fine"
         if valid and not refusal:
-            assert after == given_back(code, disk, plan, size, before, stripe), kind
-        numbers = [disk, size, stripe_length, seed, data_length, seed + 1, start, end, seed + 2 if ruin is None else ruin, len(sheet)]
-        self.add(kind, 7, numbers, sheet + plan, f"{line} digest {digest(after)}")
+            assert after == given_back(code, disks, plan, size, before, stripe), kind
+        numbers = [len(disks), size, stripe_length, seed, data_length, seed + 1, start, end, seed + 2 if ruin is None else ruin, len(sheet)]
+        self.add(kind, 7, numbers, bytes(disks) + sheet + plan, f"{line} digest {digest(after)}")
 
     def desk(self, kind: str, given: bytes) -> None:
         """The desk's lines stand in one line of the output, each newline shown as a bar."""
         self.add(kind, 6, [], given, second_desk.desk(given).replace("\n", "|"))
 
 
-def given_back(code: Code, disk: int, plan: bytes, size: int, before: bytes, stripe: bytes) -> bytes:
+def adjacent(disks: Disks) -> list[Disks]:
+    """A rising list of disks as runs of adjacent ones."""
+    runs: list[list[int]] = []
+    for disk in disks:
+        if runs and disk == runs[-1][-1] + 1:
+            runs[-1].append(disk)
+        else:
+            runs.append([disk])
+    return runs
+
+
+def given_back(code: Code, disks: Disks, plan: bytes, size: int, before: bytes, stripe: bytes) -> bytes:
     """What was lent, with the wanted symbols of the valid stripe."""
-    wanted = wanted_symbols(code, disk, listed_in(plan))
+    wanted = wanted_symbols(code, disks, listed_in(plan))
     return with_symbols(size, wanted, b"".join(stripe[s * size : (s + 1) * size] for s in wanted), before)
 
 

@@ -1,4 +1,5 @@
-"""The second program's planner: what planning may answer, with a list of wanted symbols or without one, worked out anew.
+"""The second program's planner: what planning may answer, for one disk or a set of disks, with a list of wanted symbols or without one,
+worked out anew.
 
 Which plan or which pattern is given is free, so it makes neither. It says whether the wanted symbols can be rebuilt, by the echelon form
 of the surviving rows, and judges what was given: a plan by running it on stripes, a pattern by encoding its bytes.
@@ -8,32 +9,65 @@ of the surviving rows, and judges what was given: a plan by running it on stripe
 """
 import sys
 from collections import Counter
+from itertools import combinations
 from pathlib import Path
 from random import Random
-from typing import Iterable, NamedTuple, Optional
+from typing import Iterable, NamedTuple, Optional, Sequence
 
-from second import SQUARE, Code, Refusal, changed, encoding, liberation, rank, read_code, row_diagonal, sheet_of
-from second_checker import ADD, CLEAR, COPY, P2, ROW_1, Listed, Step, check, list_refusal, listed_in, lost_places, plan_sheet, ruined, run
-from second_checker import step_count, steps_of, wanted_symbols
+from second import SQUARE, Code, Refusal, changed, encoding, evenodd, liberation, rank, read_code, row_diagonal, sheet_of
+from second_checker import ADD, CLEAR, COPY, P2, ROW_1, TWO_DISKS, Disks, Listed, Step, check, disks_in, disks_refusal, edition_of, listed_in
+from second_checker import lost_places, plan_sheet, ruined, run, set_sheet, step_count, steps_of, wanted_refusal, wanted_symbols
 
 CRATE = Path(__file__).resolve().parent.parent / "crates" / "planvectors"
-BUFFER, LIST_BUFFER = 3081, 3114
-"""The bytes that a plan buffer has at least, without a list and with one."""
+BUFFER, LIST_BUFFER, SET_BUFFER = 3081, 3114, 3210
+"""The bytes that a plan buffer has at least, for each edition."""
 
 RANDOM = Random(3)
 
 
-def planning_refusal(sheet: bytes, disk: int, listed: Listed, buffer_length: int) -> Optional[Refusal]:
-    """The order: code sheet, 7, 23, 34. A whole disk is never a bad list."""
+class Wish(NamedTuple):
+    """What planning is asked for: a sheet of an edition, the lost disks, and the list of wanted symbols that it is given."""
+
+    edition: int
+    disks: Disks
+    listed: Listed
+
+    @property
+    def buffer(self) -> int:
+        return (BUFFER, LIST_BUFFER, SET_BUFFER)[self.edition - 1]
+
+    @property
+    def head(self) -> int:
+        """The bytes of a sheet up to its first step."""
+        disks = len(self.disks) if self.edition == 3 else 0
+        return 9 if self.listed is None else 10 + disks + len(self.listed)
+
+    def wanted(self, code: Code) -> Sequence[int]:
+        return wanted_symbols(code, self.disks, self.listed)
+
+    def lost(self, code: Code) -> list[int]:
+        return lost_places(code, self.disks)
+
+
+def for_disk(disk: int, listed: Listed = None) -> Wish:
+    """Planning for one disk, with a list or without one."""
+    return Wish(1 if listed is None else 2, [disk], listed)
+
+
+def for_disks(disks: Disks, listed: Sequence[int] = b"") -> Wish:
+    """Planning for a set of disks. The empty list wants all lost symbols."""
+    return Wish(3, disks, listed)
+
+
+def planning_refusal(sheet: bytes, wish: Wish, buffer_length: int) -> Optional[Refusal]:
+    """The order: code sheet, 7, 24, 23, 34. One disk is never 24."""
     code = read_code(sheet)
     if isinstance(code, Refusal):
         return code
-    if disk >= code.disks:
-        return Refusal(7)
-    refusal = list_refusal(code, disk, wanted_symbols(code, disk, listed))
+    refusal = disks_refusal(code, wish.disks) or wanted_refusal(code, wish.disks, wish.edition, wish.listed)
     if refusal:
         return refusal
-    return Refusal(34) if buffer_length < (BUFFER if listed is None else LIST_BUFFER) else None
+    return Refusal(34) if buffer_length < wish.buffer else None
 
 
 # Whether there is a plan
@@ -51,18 +85,19 @@ def echelon_form(rows: Iterable[int], data_symbols: int) -> list[int]:
     return form
 
 
-def surviving_rows(code: Code, disk: int) -> list[int]:
-    return [row for symbol, row in enumerate(code.rows) if symbol not in lost_places(code, disk)]
+def surviving_rows(code: Code, wish: Wish) -> list[int]:
+    lost = wish.lost(code)
+    return [row for symbol, row in enumerate(code.rows) if symbol not in lost]
 
 
-def wanted_rows(code: Code, disk: int, listed: Listed) -> list[int]:
-    return [code.rows[symbol] for symbol in wanted_symbols(code, disk, listed)]
+def wanted_rows(code: Code, wish: Wish) -> list[int]:
+    return [code.rows[symbol] for symbol in wish.wanted(code)]
 
 
-def can_be_rebuilt(code: Code, disk: int, listed: Listed = None) -> bool:
-    """Whether no wanted row raises the rank of the surviving rows."""
-    form = echelon_form(surviving_rows(code, disk), code.data_symbols)
-    return all(len(echelon_form(form + [row], code.data_symbols)) == len(form) for row in wanted_rows(code, disk, listed))
+def can_be_rebuilt(code: Code, wish: Wish) -> bool:
+    """Whether the wanted rows don't raise the rank of the surviving rows."""
+    form = echelon_form(surviving_rows(code, wish), code.data_symbols)
+    return len(echelon_form(form + wanted_rows(code, wish), code.data_symbols)) == len(form)
 
 
 # What was given
@@ -71,30 +106,36 @@ Fault = Optional[str]
 """What is wrong, in words, or nothing."""
 
 
-def most_steps(code: Code) -> int:
-    return code.height * (code.symbols - code.height)
+def most_steps(code: Code, wish: Wish) -> int:
+    """One for each lost symbol and survivor; if nothing survives, one for each wanted symbol."""
+    lost = len(wish.lost(code))
+    return lost * (code.symbols - lost) or len(wish.wanted(code))
 
 
-def judge_plan(sheet: bytes, disk: int, plan: bytes, reads: int, listed: Listed = None) -> Fault:
-    """Whether planning may give a plan with this read count: it is accepted, wants what was asked for, is short enough, and
-    restores stripes of any length."""
-    accepted = check(sheet, disk, plan)
+def judge_plan(sheet: bytes, wish: Wish, plan: bytes, reads: int) -> Fault:
+    """Whether planning may give a plan with this read count: it is accepted, has the edition, the disks and the list that were asked
+    for, is short enough, and restores stripes of any length. If nothing survives it only clears."""
+    accepted = check(sheet, wish.disks, plan)
     if accepted != reads:
         return f"a check answers {accepted}, not {reads} reads"
-    if listed_in(plan) != (None if listed is None else bytes(listed)):
+    if (edition_of(plan), disks_in(plan)) != (wish.edition, bytes(wish.disks)):
+        return "another edition or other disks than asked for"
+    if listed_in(plan) != (None if wish.listed is None else bytes(wish.listed)):
         return "another list than the one that was given"
     code = read_code(sheet)
-    if step_count(plan) > most_steps(code):
-        return f"{step_count(plan)} steps, above {most_steps(code)}"
+    if step_count(plan) > most_steps(code, wish):
+        return f"{step_count(plan)} steps, above {most_steps(code, wish)}"
+    if len(wish.disks) == code.disks and any(step.kind != CLEAR for step in steps_of(plan)):
+        return "nothing survives, and a step doesn't clear"
     for size in (1, 2, 5, 16, 33):
         stripe = encoding(code, size, random_bytes(code.data_symbols * size))
-        for start in ruined(size, wanted_symbols(code, disk, listed), stripe):
+        for start in ruined(size, wish.wanted(code), stripe):
             if run(code, size, steps_of(plan), start) != stripe:
                 return f"a stripe of symbols of {size} bytes is not restored"
     return None
 
 
-def judge_pattern(sheet: bytes, disk: int, pattern: int, listed: Listed = None) -> Fault:
+def judge_pattern(sheet: bytes, wish: Wish, pattern: int) -> Fault:
     """Whether a pattern is a good one: its stripe is zero on all survivors and not in all wanted symbols, at any symbol length."""
     code = read_code(sheet)
     if not 0 < pattern < 2**code.data_symbols:
@@ -102,10 +143,11 @@ def judge_pattern(sheet: bytes, disk: int, pattern: int, listed: Listed = None) 
     for size in (1, 3, 8):
         data = b"".join(bytes([pattern >> t & 1]) * size for t in range(code.data_symbols))
         stripe = encoding(code, size, data)
-        start, end = disk * code.height * size, (disk + 1) * code.height * size
-        if any(stripe[:start] + stripe[end:]):
+        symbols = [any(stripe[at : at + size]) for at in range(0, len(stripe), size)]
+        lost = wish.lost(code)
+        if any(symbol for number, symbol in enumerate(symbols) if number not in lost):
             return f"the stripe of pattern {pattern} is not zero on a survivor"
-        if not any(any(stripe[s * size : (s + 1) * size]) for s in wanted_symbols(code, disk, listed)):
+        if not any(symbols[number] for number in wish.wanted(code)):
             return f"the stripe of pattern {pattern} is zero in the wanted symbols"
     return None
 
@@ -118,8 +160,8 @@ def random_bytes(length: int) -> bytes:
 
 
 class Asked(NamedTuple):
-    """A record: a code sheet, a buffer, some disks, one after the other, and perhaps a list of wanted symbols. crates/planvectors/src/main.rt
-    describes its bytes."""
+    """A record: a code sheet, a buffer, some disks, one after the other, and perhaps a list of wanted symbols; or a set of disks, asked about
+    at once, and a list that may be empty. crates/planvectors/src/main.rt describes its bytes."""
 
     sheet: bytes
     disk: int
@@ -128,16 +170,24 @@ class Asked(NamedTuple):
     seed: int = 0
     shown: bool = False
     listed: Optional[bytes] = None
+    disks: Optional[bytes] = None
+
+    @property
+    def wish(self) -> Wish:
+        return for_disk(self.disk, self.listed) if self.disks is None else for_disks(self.disks, self.listed or b"")
 
     def record(self) -> bytes:
         numbers = bytes([self.shown, self.seed]) + self.buffer_length.to_bytes(2, "little") + bytes([self.count])
+        first = self.disk if self.disks is None else len(self.disks)
         listed = self.listed or b""
-        section = bytes([self.listed is not None]) + len(listed).to_bytes(2, "little") + listed
-        body = numbers + self.disk.to_bytes(8, "little") + section + self.sheet
+        section = bytes([self.wish.edition - 1]) + len(listed).to_bytes(2, "little") + listed
+        body = numbers + first.to_bytes(8, "little") + section + (self.disks or b"") + self.sheet
         return len(body).to_bytes(2, "little") + body
 
     def each(self) -> list["Asked"]:
-        """A question for each disk."""
+        """A question for each disk, or the one about a set."""
+        if self.disks is not None:
+            return [self]
         return [self._replace(disk=self.disk + turn, count=1) for turn in range(self.count)]
 
 
@@ -146,10 +196,11 @@ def records_in(given: bytes) -> list[Asked]:
     while given:
         length = int.from_bytes(given[:2], "little")
         body, given = given[2 : 2 + length], given[2 + length :]
-        disk, buffer_length = int.from_bytes(body[5:13], "little"), int.from_bytes(body[2:4], "little")
+        first, buffer_length = int.from_bytes(body[5:13], "little"), int.from_bytes(body[2:4], "little")
         behind = 16 + int.from_bytes(body[14:16], "little")
-        listed = body[16:behind] if body[13] == 1 else None
-        found.append(Asked(body[behind:], disk, body[4], buffer_length, body[1], body[0] == 1, listed))
+        listed, rest = body[16:behind] if body[13] > 0 else None, body[behind:]
+        asked = Asked(rest, first, body[4], buffer_length, body[1], body[0] == 1, listed)
+        found.append(asked._replace(sheet=rest[first:], disk=0, disks=rest[:first]) if body[13] == 2 else asked)
     return found
 
 
@@ -159,7 +210,7 @@ def records_in(given: bytes) -> list[Asked]:
 def judge_line(asked: Asked, line: str) -> Fault:
     """Whether a line may stand for a question."""
     words = line.split(" ")
-    refusal = planning_refusal(asked.sheet, asked.disk, asked.listed, asked.buffer_length)
+    refusal = planning_refusal(asked.sheet, asked.wish, asked.buffer_length)
     if refusal is not None:
         expected = f"refused {refusal.number} at {refusal.place} same"
         return None if line == expected else f"not '{expected}'"
@@ -171,33 +222,32 @@ def judge_line(asked: Asked, line: str) -> Fault:
 
 
 def judge_plan_line(asked: Asked, words: list[str]) -> Fault:
-    code = read_code(asked.sheet)
-    if not can_be_rebuilt(code, asked.disk, asked.listed):
+    code, wish = read_code(asked.sheet), asked.wish
+    if not can_be_rebuilt(code, wish):
         return "a plan, though a wanted symbol can't be rebuilt"
     if len(words) != 6 + asked.shown or words[3:6] != ["accepted", "behind-same", "restored"]:
         return "not a plan that is accepted and restores"
     length, reads = int(words[1]), int(words[2])
-    head = 9 if asked.listed is None else 10 + len(asked.listed)
-    steps, rest = divmod(length - head, 3)
-    rows = wanted_rows(code, asked.disk, asked.listed)
-    if rest or not len(rows) <= steps <= most_steps(code):
+    steps, rest = divmod(length - wish.head, 3)
+    rows = wanted_rows(code, wish)
+    if rest or not len(rows) <= steps <= most_steps(code, wish):
         return f"a sheet of {length} bytes"
-    if not rank(rows) <= reads <= min(steps, code.symbols - code.height):
+    if not rank(rows) <= reads <= min(steps, len(surviving_rows(code, wish))):
         return f"{reads} reads in {steps} steps"
     if not asked.shown:
         return None
     plan = bytes.fromhex(words[6])
     if len(plan) != length:
         return f"{len(plan)} bytes shown, not {length}"
-    return judge_plan(asked.sheet, asked.disk, plan, reads, asked.listed)
+    return judge_plan(asked.sheet, wish, plan, reads)
 
 
 def judge_pattern_line(asked: Asked, words: list[str]) -> Fault:
-    if can_be_rebuilt(read_code(asked.sheet), asked.disk, asked.listed):
+    if can_be_rebuilt(read_code(asked.sheet), asked.wish):
         return "a pattern, though all wanted symbols can be rebuilt"
     if len(words) != 4 or words[2:] != ["same", "good"]:
         return "not a good pattern and nothing written"
-    return judge_pattern(asked.sheet, asked.disk, int(words[1]), asked.listed)
+    return judge_pattern(asked.sheet, asked.wish, int(words[1]))
 
 
 def judge_lines(questions: list[Asked], lines: list[str]) -> list[str]:
@@ -222,31 +272,47 @@ LOST = Code(2, 2, 2, (1, 2, 0, 0))
 
 
 def test_refusals() -> None:
-    assert planning_refusal(SQUARE_SHEET, 3, None, 3081) is None
-    assert planning_refusal(SQUARE_SHEET, 3, None, 3080) == planning_refusal(sheet_of(P8), 0, None, 0) == Refusal(34)
-    assert planning_refusal(SQUARE_SHEET, 4, None, 0) == planning_refusal(SQUARE_SHEET, 2**64 - 1, None, 3081) == Refusal(7)
-    assert planning_refusal(SQUARE_SHEET[:69], 4, None, 0) == Refusal(1)
-    assert planning_refusal(changed(SQUARE_SHEET, 22, 16), 4, None, 0) == Refusal(6, 2 * 64 + 4)
-    assert planning_refusal(SQUARE_SHEET, 3, b"\6\7", 3114) is None
-    assert planning_refusal(SQUARE_SHEET, 3, b"\7", 3113) == Refusal(34)
+    assert planning_refusal(SQUARE_SHEET, for_disk(3), 3081) is None
+    assert planning_refusal(SQUARE_SHEET, for_disk(3), 3080) == planning_refusal(sheet_of(P8), for_disk(0), 0) == Refusal(34)
+    assert planning_refusal(SQUARE_SHEET, for_disk(4), 0) == planning_refusal(SQUARE_SHEET, for_disk(2**64 - 1), 3081) == Refusal(7)
+    assert planning_refusal(SQUARE_SHEET[:69], for_disk(4), 0) == Refusal(1)
+    assert planning_refusal(changed(SQUARE_SHEET, 22, 16), for_disk(4), 0) == Refusal(6, 2 * 64 + 4)
+    assert planning_refusal(SQUARE_SHEET, for_disk(3, b"\6\7"), 3114) is None
+    assert planning_refusal(SQUARE_SHEET, for_disk(3, b"\7"), 3113) == Refusal(34)
     for listed, place in [(b"", 0), (b"\6\7\7", 0), (bytes(256), 0), (b"\5", 0), (b"\10", 0), (b"\7\7", 1), (b"\7\6", 1)]:
-        assert planning_refusal(SQUARE_SHEET, 3, listed, 0) == Refusal(23, place)
-    assert planning_refusal(SQUARE_SHEET, 4, b"", 0) == Refusal(7) and planning_refusal(b"", 4, b"", 0) == Refusal(1)
+        assert planning_refusal(SQUARE_SHEET, for_disk(3, listed), 0) == Refusal(23, place)
+    assert planning_refusal(SQUARE_SHEET, for_disk(4, b""), 0) == Refusal(7) and planning_refusal(b"", for_disk(4, b""), 0) == Refusal(1)
 
 
-def has_good_pattern(code: Code, disk: int, listed: Listed = None) -> bool:
+def test_refusals_of_sets() -> None:
+    """7 before 24, 24 before 23, 23 before 34; lists of any length, and one buffer for every plan."""
+    good, square = for_disks([0, 2]), SQUARE_SHEET
+    assert planning_refusal(square, good, 3210) is None and planning_refusal(square, good, 3209) == Refusal(34)
+    assert planning_refusal(sheet_of(P9), for_disks([0, 1], [0]), 3209) == Refusal(34)
+    assert planning_refusal(square[:69], for_disks([4], [2]), 0) == Refusal(1)
+    for disks in ([4], [0, 4], [4, 0], [0] * 256 + [255]):
+        assert planning_refusal(square, for_disks(disks, [2]), 0) == Refusal(7)
+    for asked, place in [([], 0), ([0] * 5, 0), ([0] * 256, 0), ([0, 0], 1), ([2, 0], 1), ([0, 2, 1], 2)]:
+        assert planning_refusal(square, for_disks(asked, [2]), 0) == Refusal(24, place)
+    for listed, place in [([2], 0), ([8], 0), ([0, 1, 4, 5, 5], 0), ([0] * 300, 0), ([0, 3], 1), ([4, 4], 1), ([0, 4, 1], 2)]:
+        assert planning_refusal(square, for_disks([0, 2], listed), 0) == Refusal(23, place)
+    for listed in ([], [0], [5], [1, 4], [0, 1, 4, 5]):
+        assert planning_refusal(square, for_disks([0, 2], listed), 3210) is None
+
+
+def has_good_pattern(code: Code, wish: Wish) -> bool:
     """By trying every pattern."""
     sheet = sheet_of(code)
-    return any(judge_pattern(sheet, disk, pattern, listed) is None for pattern in range(2**code.data_symbols))
+    return any(judge_pattern(sheet, wish, pattern) is None for pattern in range(2**code.data_symbols))
 
 
 def test_echelon_form() -> None:
     assert echelon_form([5, 3, 6, 0, 5], 3) == [5, 3]
-    assert not can_be_rebuilt(P8, 0) and can_be_rebuilt(P9, 0) and not can_be_rebuilt(P9, 1)
+    assert not can_be_rebuilt(P8, for_disk(0)) and can_be_rebuilt(P9, for_disk(0)) and not can_be_rebuilt(P9, for_disk(1))
     for code in (SQUARE, liberation(5, 5), liberation(7, 4), row_diagonal(7)):
-        assert all(can_be_rebuilt(code, disk) for disk in range(code.disks))
+        assert all(can_be_rebuilt(code, for_disk(disk)) for disk in range(code.disks))
     unequal = liberation(5, 5)._replace(rows=liberation(5, 5).rows[:25] + (0,) * 5 + liberation(5, 5).rows[30:])
-    assert [can_be_rebuilt(unequal, disk) for disk in range(7)] == [True] * 7
+    assert [can_be_rebuilt(unequal, for_disk(disk)) for disk in range(7)] == [True] * 7
     answers = Counter()
     for _ in range(150):
         disks, height, data_symbols = RANDOM.randrange(2, 5), RANDOM.randrange(1, 3), RANDOM.randrange(1, 6)
@@ -254,22 +320,35 @@ def test_echelon_form() -> None:
         code, disk = Code(disks, height, data_symbols, rows), RANDOM.randrange(disks)
         form = echelon_form(rows, data_symbols)
         assert len(form) == rank(list(rows)) and rank(list(rows) + form) == len(form)
-        answers[can_be_rebuilt(code, disk)] += 1
-        assert can_be_rebuilt(code, disk) != has_good_pattern(code, disk)
-        parts = [can_be_rebuilt(code, disk, [place]) for place in lost_places(code, disk)]
-        assert parts == [not has_good_pattern(code, disk, [place]) for place in lost_places(code, disk)]
-        assert can_be_rebuilt(code, disk) == all(parts)
+        answers[can_be_rebuilt(code, for_disk(disk))] += 1
+        assert can_be_rebuilt(code, for_disk(disk)) != has_good_pattern(code, for_disk(disk))
+        some = sorted(RANDOM.sample(range(disks), RANDOM.randrange(1, disks + 1)))
+        for wish in (for_disk(disk), for_disks(some)):
+            parts = [wish._replace(listed=[place]) for place in wish.lost(code)]
+            assert [can_be_rebuilt(code, part) for part in parts] == [not has_good_pattern(code, part) for part in parts]
+            assert can_be_rebuilt(code, wish) == all(can_be_rebuilt(code, part) for part in parts) != has_good_pattern(code, wish)
     assert min(answers.values()) > 30
-    assert [can_be_rebuilt(HALF, 0, listed) for listed in ([0], [1], [0, 1], None)] == [False, True, False, False]
+    assert [can_be_rebuilt(HALF, for_disk(0, listed)) for listed in ([0], [1], [0, 1], None)] == [False, True, False, False]
+
+
+def test_two_losses() -> None:
+    """The square code stands every two losses but that of both data disks; the families of two parities stand every two."""
+    pairs = [pair for pair in combinations(range(4), 2) if not can_be_rebuilt(SQUARE, for_disks(pair))]
+    assert pairs == [(0, 1)] and not can_be_rebuilt(SQUARE, for_disks([0, 2, 3]))
+    assert not can_be_rebuilt(P9, for_disks([0, 1])) and can_be_rebuilt(P9, for_disks([0, 1], [0]))
+    by_prime = [family(p) for family in (row_diagonal, evenodd) for p in (3, 5, 7)]
+    for code in [liberation(w, k) for w in (3, 5, 7) for k in range(2, w + 1)] + by_prime:
+        assert all(can_be_rebuilt(code, for_disks(pair)) for pair in combinations(range(code.disks), 2))
+        assert not can_be_rebuilt(code, for_disks([0, 1, code.disks - 1]))
 
 
 def test_plans() -> None:
     """P2 is right as it stands. Each plan behind it has one thing wrong."""
     steps = steps_of(P2)
-    assert judge_plan(SQUARE_SHEET, 0, P2, 3) is None
-    assert judge_plan(sheet_of(P9), 0, plan_sheet(P9, 0, [Step(CLEAR, 0, 0)]), 0) is None
+    assert judge_plan(SQUARE_SHEET, for_disk(0), P2, 3) is None
+    assert judge_plan(sheet_of(P9), for_disk(0), plan_sheet(P9, 0, [Step(CLEAR, 0, 0)]), 0) is None
     longest = [Step(CLEAR, 0, 0)] * 8 + steps
-    assert judge_plan(SQUARE_SHEET, 0, plan_sheet(SQUARE, 0, longest), 3) is None
+    assert judge_plan(SQUARE_SHEET, for_disk(0), plan_sheet(SQUARE, 0, longest), 3) is None
     wrong = [
         ("wrong source", changed(P2, 20, 6), 3),
         ("read count of the answer", P2, 4),
@@ -283,16 +362,17 @@ def test_plans() -> None:
         ("a byte more", P2 + b"\0", 3),
     ]
     for why, plan, reads in wrong:
-        assert judge_plan(SQUARE_SHEET, 0, plan, reads) is not None, why
-    assert judge_plan(sheet_of(row_diagonal(3)), 0, plan_sheet(SQUARE, 0, [Step(COPY, 0, 6), Step(ADD, 0, 3)] + steps[2:]), 4)
+        assert judge_plan(SQUARE_SHEET, for_disk(0), plan, reads) is not None, why
+    cached = plan_sheet(SQUARE, 0, [Step(COPY, 0, 6), Step(ADD, 0, 3)] + steps[2:])
+    assert judge_plan(sheet_of(row_diagonal(3)), for_disk(0), cached, 4) is not None, "right for another code"
 
 
 def test_plans_with_lists() -> None:
     """Row 1 of the square code's disk 0, and the whole disk as a list."""
     steps = steps_of(P2)
-    assert judge_plan(SQUARE_SHEET, 0, ROW_1, 2, [1]) is None
-    assert judge_plan(SQUARE_SHEET, 0, plan_sheet(SQUARE, 0, steps, listed=[0, 1]), 3, b"\0\1") is None
-    assert judge_plan(sheet_of(HALF), 0, plan_sheet(HALF, 0, [Step(COPY, 1, 3)], listed=[1]), 1, [1]) is None
+    assert judge_plan(SQUARE_SHEET, for_disk(0, [1]), ROW_1, 2) is None
+    assert judge_plan(SQUARE_SHEET, for_disk(0, b"\0\1"), plan_sheet(SQUARE, 0, steps, listed=[0, 1]), 3) is None
+    assert judge_plan(sheet_of(HALF), for_disk(0, [1]), plan_sheet(HALF, 0, [Step(COPY, 1, 3)], listed=[1]), 1) is None
     wrong = [
         ("a list, though none was given", plan_sheet(SQUARE, 0, steps, listed=[0, 1]), 3, None),
         ("no list, though one was given", P2, 3, [0, 1]),
@@ -302,14 +382,45 @@ def test_plans_with_lists() -> None:
         ("too many steps", plan_sheet(SQUARE, 0, [Step(CLEAR, 1, 0)] * 11 + steps[2:], listed=[1]), 2, [1]),
     ]
     for why, plan, reads, listed in wrong:
-        assert judge_plan(SQUARE_SHEET, 0, plan, reads, listed) is not None, why
+        assert judge_plan(SQUARE_SHEET, for_disk(0, listed), plan, reads) is not None, why
+
+
+def test_plans_of_sets() -> None:
+    """The square code without disks 0 and 2, and an array that is lost whole."""
+    steps = steps_of(TWO_DISKS)
+    part = set_sheet(SQUARE, [0, 2], steps[:2] + steps[4:6], listed=[0, 4])
+    full = set_sheet(SQUARE, [0, 2], steps, listed=[0, 1, 4, 5])
+    one = set_sheet(SQUARE, [0], steps_of(P2))
+    longest = set_sheet(SQUARE, [0, 2], [Step(CLEAR, 0, 0)] * 8 + steps)
+    right = [([0, 2], [], TWO_DISKS, 4), ([0, 2], [0, 4], part, 3), ([0, 2], [0, 1, 4, 5], full, 4), ([0], [], one, 3), ([0, 2], [], longest, 4)]
+    for disks, listed, plan, reads in right:
+        assert judge_plan(SQUARE_SHEET, for_disks(disks, listed), plan, reads) is None
+    wrong = [
+        ("all listed, though no list was given", [0, 2], [], full, 4),
+        ("no list, though one was given", [0, 2], [0, 1, 4, 5], TWO_DISKS, 4),
+        ("another list", [0, 2], [0, 5], part, 3),
+        ("another set", [0, 3], [], TWO_DISKS, 4),
+        ("edition 1", [0], [], P2, 3),
+        ("edition 2", [0], [1], ROW_1, 2),
+        ("read count of the answer", [0, 2], [], TWO_DISKS, 5),
+        ("a wrong source", [0, 2], [], changed(TWO_DISKS, 14, 7), 4),
+        ("too many steps", [0, 2], [], set_sheet(SQUARE, [0, 2], [Step(CLEAR, 0, 0)] * 9 + steps), 4),
+    ]
+    for why, disks, listed, plan, reads in wrong:
+        assert judge_plan(SQUARE_SHEET, for_disks(disks, listed), plan, reads) is not None, why
+    assert judge_plan(SQUARE_SHEET, for_disk(0), one, 3) is not None, "edition 3, though one disk was asked about"
+    nothing = Code(2, 1, 1, (0, 0))
+    clears = [Step(CLEAR, 0, 0), Step(CLEAR, 1, 0)]
+    for tried, fine in [(clears, True), (clears[::-1], True), ([clears[0], Step(COPY, 1, 0)], False), (clears + clears[:1], False)]:
+        fault = judge_plan(sheet_of(nothing), for_disks([0, 1]), set_sheet(nothing, [0, 1], tried), 0)
+        assert (fault is None) == fine, tried
 
 
 def test_patterns() -> None:
     sheet = sheet_of(P8)
-    assert judge_pattern(sheet, 0, 1) is None and judge_pattern(sheet, 1, 2) is None
+    assert judge_pattern(sheet, for_disk(0), 1) is None and judge_pattern(sheet, for_disk(1), 2) is None
     wide = Code(3, 1, 64, (2**63, 2**62 + 1, 2**62))
-    assert judge_pattern(sheet_of(wide), 0, 2**63) is None and judge_pattern(sheet_of(wide), 1, 1) is None
+    assert judge_pattern(sheet_of(wide), for_disk(0), 2**63) is None and judge_pattern(sheet_of(wide), for_disk(1), 1) is None
     wrong = [
         ("0", sheet, 0, 0),
         ("a bit at K", sheet, 0, 5),
@@ -318,10 +429,10 @@ def test_patterns() -> None:
         ("zero on the lost disk", sheet_of(wide), 0, 2),
     ]
     for why, code_sheet, disk, pattern in wrong:
-        assert judge_pattern(code_sheet, disk, pattern) is not None, why
-    assert all(judge_pattern(SQUARE_SHEET, 0, pattern) is not None for pattern in range(17)), "a disk that can be rebuilt"
-    assert judge_pattern(sheet_of(LOST), 0, 1, [0]) is None and judge_pattern(sheet_of(LOST), 0, 2, [0]) is not None
-    assert all(judge_pattern(sheet_of(LOST), 0, pattern, listed) is None for pattern in (1, 2, 3) for listed in ([0, 1], None))
+        assert judge_pattern(code_sheet, for_disk(disk), pattern) is not None, why
+    assert all(judge_pattern(SQUARE_SHEET, for_disk(0), pattern) is not None for pattern in range(17)), "a disk that can be rebuilt"
+    assert judge_pattern(sheet_of(LOST), for_disk(0, [0]), 1) is None and judge_pattern(sheet_of(LOST), for_disk(0, [0]), 2) is not None
+    assert all(judge_pattern(sheet_of(LOST), for_disk(0, listed), pattern) is None for pattern in (1, 2, 3) for listed in ([0, 1], None))
 
 
 def test_lines() -> None:
@@ -386,11 +497,52 @@ def test_lines_with_lists() -> None:
         assert judge_line(asked, line) is not None, line
 
 
+def test_patterns_of_sets() -> None:
+    """The square code's rows 5, 10, 9 and 6 have an even overlap with 15 alone; a pattern may be odd on every lost disk."""
+    both = for_disks([0, 1])
+    assert [pattern for pattern in range(16) if judge_pattern(SQUARE_SHEET, both, pattern) is None] == [15]
+    assert all(judge_pattern(SQUARE_SHEET, for_disks([0, 2]), pattern) is not None for pattern in range(16))
+    every = for_disks([0, 1, 2, 3])
+    assert [pattern for pattern in range(18) if judge_pattern(SQUARE_SHEET, every, pattern) is None] == list(range(1, 16))
+    assert judge_pattern(sheet_of(P9), for_disks([0, 1]), 1) is None
+    assert judge_pattern(sheet_of(P9), for_disks([0, 1], [0]), 1) is not None, "zero in the wanted symbol"
+    assert judge_pattern(SQUARE_SHEET, for_disk(0), 15) is not None, "odd on a survivor"
+
+
+def test_lines_of_sets() -> None:
+    pair = Asked(SQUARE_SHEET, 0, buffer_length=SET_BUFFER, shown=True, listed=b"", disks=b"\0\2")
+    right = f"plan 36 4 accepted behind-same restored {TWO_DISKS.hex()}"
+    assert judge_line(pair, right) is None
+    assert judge_line(pair._replace(shown=False, listed=b"\0\4"), "plan 26 3 accepted behind-same restored") is None
+    assert judge_line(pair._replace(disks=b"\0\1"), "pattern 15 same good") is None
+    assert judge_line(pair._replace(disks=b"\2\0", buffer_length=0), "refused 24 at 1 same") is None
+    assert judge_line(pair._replace(buffer_length=SET_BUFFER - 1), "refused 34 at 0 same") is None
+    wrong = [
+        (pair._replace(disks=b"\0\3"), right),
+        (pair._replace(disks=None, listed=None), right),
+        (pair._replace(listed=b"\0\1\4\5"), right),
+        (pair._replace(disks=b"\0\1"), right),
+        (pair._replace(disks=b"\0\4"), "refused 24 at 0 same"),
+        (pair._replace(disks=b""), "refused 7 at 0 same"),
+        (pair._replace(buffer_length=LIST_BUFFER), right),
+        (pair._replace(shown=False), "plan 36 5 accepted behind-same restored"),
+        (pair._replace(shown=False), "plan 63 4 accepted behind-same restored"),
+        (pair._replace(shown=False), "plan 35 4 accepted behind-same restored"),
+        (pair, "pattern 15 same good"),
+        (pair._replace(disks=b"\0\1"), "pattern 7 same good"),
+    ]
+    for asked, line in wrong:
+        assert judge_line(asked, line) is not None, line
+
+
 def test_records() -> None:
     large = Asked(SQUARE_SHEET, 2**64 - 1, 1, 258, 255, True)
     asked = [large, Asked(sheet_of(P8), 0, 2), large._replace(listed=b""), large._replace(listed=bytes(300))]
-    assert records_in(b"".join(one.record() for one in asked)) == asked
+    of_sets = [Asked(SQUARE_SHEET, 0, listed=listed, disks=disks) for listed in (b"", b"\1", bytes(300)) for disks in (b"", b"\0\2", bytes(300))]
+    assert records_in(b"".join(one.record() for one in asked + of_sets)) == asked + of_sets
     assert [one.disk for one in asked[1].each()] == [0, 1]
+    assert all(one.each() == [one] for one in of_sets)
+    assert of_sets[4].record()[6:22] == bytes([1, 2, 0, 0, 0, 0, 0, 0, 0, 2, 1, 0, 1, 0, 2, 4])
 
 
 def judge_program() -> None:
@@ -405,18 +557,23 @@ def judge_program() -> None:
     kinds = Counter(line.split(" ")[0] for line in lines)
     shown = sum(asked.shown and line.startswith("plan") for asked, line in zip(questions, lines))
     counts = ", ".join(f"{kinds[kind]} {kind}" for kind in ("plan", "pattern", "refused"))
-    listed = sum(asked.listed is not None for asked in questions)
-    print(f"planning, as printed by crates/planvectors: {counts}, {listed} with a list, {shown} plans with their bytes: ok")
+    listed, sets = (sum(asked.wish.edition == edition for asked in questions) for edition in (2, 3))
+    print(f"planning, as printed by crates/planvectors: {counts}, {listed} with a list, {sets} for sets, {shown} plans with their bytes: ok")
 
 
 if __name__ == "__main__":
     test_refusals()
+    test_refusals_of_sets()
     test_echelon_form()
+    test_two_losses()
     test_plans()
     test_plans_with_lists()
+    test_plans_of_sets()
     test_patterns()
+    test_patterns_of_sets()
     test_lines()
     test_lines_with_lists()
+    test_lines_of_sets()
     test_records()
     print("second program's planner: ok")
     judge_program()

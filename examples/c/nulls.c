@@ -7,8 +7,8 @@
 
 static const uint8_t sheet[22] = {4, 1, 2, 1, 1, 2, 1, 0, 0, 0, 0, 0, 0, 0, 1, 0, 0, 0, 0, 0, 0, 0};
 static const uint8_t plan[12] = {6, 1, 2, 1, 1, 0, 1, 1, 0, 1, 0, 1}; /* symbol 0 becomes symbol 1 */
-static const uint8_t wanted[1] = {0}, contents[1] = {7}, spare[1] = {9};
-static uint8_t stripe[2], buffer[NAVORZIM_PLAN_BYTES];
+static const uint8_t disks[1] = {0}, wanted[1] = {0}, contents[1] = {7}, spare[1] = {9};
+static uint8_t stripe[2], buffer[NAVORZIM_PLAN_DISKS_BYTES];
 static int wrong;
 
 /* Compares the number that a call answered with the one it must answer. */
@@ -44,6 +44,24 @@ static void checking_and_planning(void) {
     expect("plan with a list, buffer", navorzim_plan_wanted(sheet, 22, 0, wanted, 1, NULL, 0).number, 34);
 }
 
+static void several_disks(void) {
+    expect("check for disks, all", navorzim_check_disks(NULL, 0, NULL, 0, NULL, 0).number, 1);
+    expect("check for disks, sheet", navorzim_check_disks(NULL, 0, disks, 1, plan, 12).number, 1);
+    expect("check for disks, disks", navorzim_check_disks(sheet, 22, NULL, 0, plan, 12).number, 24);
+    expect("check for disks, plan", navorzim_check_disks(sheet, 22, disks, 1, NULL, 0).number, 11);
+    expect("plan for disks, all", navorzim_plan_disks(NULL, 0, NULL, 0, NULL, 0, NULL, 0).number, 1);
+    expect("plan for disks, sheet", navorzim_plan_disks(NULL, 0, disks, 1, wanted, 1, buffer, sizeof buffer).number, 1);
+    expect("plan for disks, disks", navorzim_plan_disks(sheet, 22, NULL, 0, wanted, 1, buffer, sizeof buffer).number, 24);
+    /* no list wants everything */
+    expect("plan for disks, list", navorzim_plan_disks(sheet, 22, disks, 1, NULL, 0, buffer, sizeof buffer).number, 0);
+    expect("plan for disks, buffer", navorzim_plan_disks(sheet, 22, disks, 1, wanted, 1, NULL, 0).number, 34);
+    expect("rebuild disks, all", navorzim_rebuild_disks(NULL, 0, NULL, 0, NULL, 0, 1, NULL, 0).number, 1);
+    expect("rebuild disks, sheet", navorzim_rebuild_disks(NULL, 0, disks, 1, plan, 12, 1, stripe, 2).number, 1);
+    expect("rebuild disks, disks", navorzim_rebuild_disks(sheet, 22, NULL, 0, plan, 12, 1, stripe, 2).number, 24);
+    expect("rebuild disks, plan", navorzim_rebuild_disks(sheet, 22, disks, 1, NULL, 0, 1, stripe, 2).number, 11);
+    expect("rebuild disks, stripe", navorzim_rebuild_disks(sheet, 22, disks, 1, plan, 12, 1, NULL, 0).number, 32);
+}
+
 static void rebuilding(void) {
     expect("rebuild, all", navorzim_rebuild(NULL, 0, 0, NULL, 0, 1, NULL, 0).number, 1);
     expect("rebuild, sheet", navorzim_rebuild(NULL, 0, 0, plan, 12, 1, stripe, 2).number, 1);
@@ -69,6 +87,7 @@ static void looking(void) {
 int main(void) {
     families_and_encoding();
     checking_and_planning();
+    several_disks();
     rebuilding();
     looking();
     /* the same array and plan, with all their bytes */

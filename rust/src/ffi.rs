@@ -44,7 +44,7 @@ pub struct Checked {
     pub reads: u64,
 }
 
-/// A disk that was planned for: with a length a plan, with a pattern none.
+/// Disks that were planned for: with a length a plan, with a pattern none.
 #[repr(C)]
 #[derive(Clone, Copy)]
 pub struct Planned {
@@ -83,6 +83,14 @@ extern "C" {
         stripe_length: usize,
     ) -> Verdict;
     fn navorzim_check(sheet: Bytes, sheet_length: usize, disk: u64, plan: Bytes, plan_length: usize) -> Checked;
+    fn navorzim_check_disks(
+        sheet: Bytes,
+        sheet_length: usize,
+        disks: Bytes,
+        disks_length: usize,
+        plan: Bytes,
+        plan_length: usize,
+    ) -> Checked;
     fn navorzim_plan(sheet: Bytes, sheet_length: usize, disk: u64, buffer: BytesMut, buffer_length: usize) -> Planned;
     fn navorzim_plan_wanted(
         sheet: Bytes,
@@ -93,10 +101,31 @@ extern "C" {
         buffer: BytesMut,
         buffer_length: usize,
     ) -> Planned;
+    fn navorzim_plan_disks(
+        sheet: Bytes,
+        sheet_length: usize,
+        disks: Bytes,
+        disks_length: usize,
+        wanted: Bytes,
+        wanted_length: usize,
+        buffer: BytesMut,
+        buffer_length: usize,
+    ) -> Planned;
     fn navorzim_rebuild(
         sheet: Bytes,
         sheet_length: usize,
         disk: u64,
+        plan: Bytes,
+        plan_length: usize,
+        size: u64,
+        stripe: BytesMut,
+        stripe_length: usize,
+    ) -> Verdict;
+    fn navorzim_rebuild_disks(
+        sheet: Bytes,
+        sheet_length: usize,
+        disks: Bytes,
+        disks_length: usize,
         plan: Bytes,
         plan_length: usize,
         size: u64,
@@ -183,6 +212,10 @@ pub fn check(sheet: &[u8], disk: u64, plan: &[u8]) -> Checked {
     unsafe { navorzim_check(sheet.as_ptr(), sheet.len(), disk, plan.as_ptr(), plan.len()) }
 }
 
+pub fn check_disks(sheet: &[u8], disks: &[u8], plan: &[u8]) -> Checked {
+    unsafe { navorzim_check_disks(sheet.as_ptr(), sheet.len(), disks.as_ptr(), disks.len(), plan.as_ptr(), plan.len()) }
+}
+
 pub fn plan(sheet: &[u8], disk: u64, buffer: &mut [u8]) -> Planned {
     unsafe { navorzim_plan(sheet.as_ptr(), sheet.len(), disk, buffer.as_mut_ptr(), buffer.len()) }
 }
@@ -201,12 +234,43 @@ pub fn plan_wanted(sheet: &[u8], disk: u64, wanted: &[u8], buffer: &mut [u8]) ->
     }
 }
 
+pub fn plan_disks(sheet: &[u8], disks: &[u8], wanted: &[u8], buffer: &mut [u8]) -> Planned {
+    unsafe {
+        navorzim_plan_disks(
+            sheet.as_ptr(),
+            sheet.len(),
+            disks.as_ptr(),
+            disks.len(),
+            wanted.as_ptr(),
+            wanted.len(),
+            buffer.as_mut_ptr(),
+            buffer.len(),
+        )
+    }
+}
+
 pub fn rebuild(sheet: &[u8], disk: u64, plan: &[u8], size: u64, stripe: &mut [u8]) -> Verdict {
     unsafe {
         navorzim_rebuild(
             sheet.as_ptr(),
             sheet.len(),
             disk,
+            plan.as_ptr(),
+            plan.len(),
+            size,
+            stripe.as_mut_ptr(),
+            stripe.len(),
+        )
+    }
+}
+
+pub fn rebuild_disks(sheet: &[u8], disks: &[u8], plan: &[u8], size: u64, stripe: &mut [u8]) -> Verdict {
+    unsafe {
+        navorzim_rebuild_disks(
+            sheet.as_ptr(),
+            sheet.len(),
+            disks.as_ptr(),
+            disks.len(),
             plan.as_ptr(),
             plan.len(),
             size,

@@ -6,8 +6,8 @@
 //!
 //! An array has n disks of r symbols each, N = n × r in all, and a symbol is L bytes. K symbols of data go in. A *code sheet* (22 to
 //! 518 bytes) says which data symbols each symbol is the XOR of. A *stripe* is N × L bytes, symbol s at byte s × L. A *plan sheet*
-//! (9 to 3,114 bytes) says how to bring the *wanted* symbols of a lost disk back: in edition 1 the whole disk, in edition 2 a list.
-//! `docs/RULES.md` has all of it, byte for byte.
+//! (9 to 3,210 bytes) says how to bring the *wanted* symbols of lost disks back: in edition 1 all of one disk, in edition 2 a list on
+//! one disk, in edition 3 all of several disks or a list on them. `docs/RULES.md` has all of it, byte for byte.
 //!
 //! ```
 //! use navorzim::{check, encode, plan, rebuild, Family, Planning};
@@ -28,21 +28,24 @@
 //! ```
 //!
 //! Where one record is enough, [`plan_wanted`] plans for some of the lost symbols. [`check`] and [`rebuild`] take its plan like any
-//! other. [`plan_into`] and [`plan_wanted_into`] write to a buffer of the caller's and allocate nothing.
+//! other. [`plan_into`], [`plan_wanted_into`] and [`plan_disks_into`] write to a buffer of the caller's and allocate nothing.
+//!
+//! Where more than one disk is lost, [`plan_disks`], [`check_disks`] and [`rebuild_disks`] take a list of disks. The calls that take
+//! one disk mean the list of that disk.
 #![deny(unsafe_code)]
 #![warn(missing_docs)]
 
 mod ffi;
 mod refusal;
 
-pub use refusal::Refusal;
+pub use refusal::{Refusal, WantedSymbol};
 
 /// The length of the longest code sheet.
 pub const LONGEST_CODE_SHEET: usize = 518;
 
 /// The length of the longest plan sheet. A buffer of this length is enough for every plan: [`plan_into`] asks for 3,081 bytes or
-/// more, [`plan_wanted_into`] for 3,114 or more.
-pub const PLAN_BUFFER: usize = 3114;
+/// more, [`plan_wanted_into`] for 3,114 or more, [`plan_disks_into`] for as many as this or more.
+pub const PLAN_BUFFER: usize = 3210;
 
 /// A family of codes that can be asked for by name.
 #[derive(Clone, Copy, Debug, PartialEq, Eq)]
@@ -156,17 +159,28 @@ pub fn encode(sheet: &[u8], symbol_length: u64, data: &[u8], stripe: &mut [u8]) 
     unless_refused(verdict.number, verdict.place, ())
 }
 
-/// Judges a plan sheet, of edition 1 or 2, for a code and a failed disk. Answers how many surviving symbols the plan reads.
+/// Judges a plan sheet, of any edition, for a code and a failed disk. Answers how many surviving symbols the plan reads.
 ///
 /// # Errors
 ///
-/// In this order: the code sheet's (1 to 6), [`Refusal::NoSuchDisk`], the plan sheet's (11 to 23).
+/// In this order: the code sheet's (1 to 6), [`Refusal::NoSuchDisk`], the plan sheet's (7 and 11 to 25).
 pub fn check(sheet: &[u8], disk: u64, plan: &[u8]) -> Result<u64, Refusal> {
     let checked = ffi::check(sheet, disk, plan);
-    unless_refused(checked.number, checked.place, checked.reads)
+    unless_plan_refused(plan, checked.number, checked.place, checked.reads)
 }
 
-/// What [`plan_into`] and [`plan_wanted_into`] answer.
+/// Judges a plan sheet, of any edition, for a code and its failed disks: `disks` holds their numbers, rising. Answers how many
+/// surviving symbols the plan reads. A plan for other disks, be it some of these or more than these, is refused.
+///
+/// # Errors
+///
+/// In this order: the code sheet's (1 to 6), [`Refusal::NoSuchDisk`], [`Refusal::BadDiskList`], the plan sheet's (7 and 11 to 25).
+pub fn check_disks(sheet: &[u8], disks: &[u8], plan: &[u8]) -> Result<u64, Refusal> {
+    let checked = ffi::check_disks(sheet, disks, plan);
+    unless_plan_refused(plan, checked.number, checked.place, checked.reads)
+}
+
+/// What [`plan_into`], [`plan_wanted_into`] and [`plan_disks_into`] answer.
 #[derive(Clone, Copy, Debug, PartialEq, Eq)]
 pub enum Planned {
     /// A plan sheet stands at the front of the buffer.
@@ -181,7 +195,7 @@ pub enum Planned {
     Pattern(u64),
 }
 
-/// What [`plan`] and [`plan_wanted`] answer.
+/// What [`plan`], [`plan_wanted`] and [`plan_disks`] answer.
 #[derive(Clone, Debug, PartialEq, Eq)]
 pub enum Planning {
     /// A plan.
@@ -252,14 +266,60 @@ pub fn plan_wanted(sheet: &[u8], disk: u64, wanted: &[u8]) -> Result<Planning, R
     owned(|buffer| plan_wanted_into(sheet, disk, wanted, buffer))
 }
 
-/// Plans the rebuild of some symbols of a disk, as [`plan_wanted`] does, into a buffer of [`PLAN_BUFFER`] bytes or more. The bytes
-/// after the plan stay.
+/// Plans the rebuild of some symbols of a disk, as [`plan_wanted`] does, into a buffer of 3,114 bytes or more. The bytes after the plan
+/// stay.
 ///
 /// # Errors
 ///
 /// In this order: the code sheet's (1 to 6), [`Refusal::NoSuchDisk`], [`Refusal::BadWantedList`], [`Refusal::PlanBufferTooShort`].
 pub fn plan_wanted_into(sheet: &[u8], disk: u64, wanted: &[u8], buffer: &mut [u8]) -> Result<Planned, Refusal> {
     planned(ffi::plan_wanted(sheet, disk, wanted, buffer))
+}
+
+/// Plans the rebuild of several disks, or of some of their symbols. `disks` holds the numbers of the lost disks, rising; `wanted` those
+/// of the symbols to be brought back, disk × r + row, rising, or nothing for all symbols of these disks.
+///
+/// The plan sheet is of edition 3 and has exactly these lists, also for one disk. A rebuild by it leaves the lost symbols that aren't
+/// wanted as they are.
+///
+/// # Errors
+///
+/// In this order: the code sheet's (1 to 6), [`Refusal::NoSuchDisk`], [`Refusal::BadDiskList`], [`Refusal::BadWantedList`].
+///
+/// ```
+/// use navorzim::{check_disks, encode, plan_disks, rebuild_disks, Family, Planning, Refusal};
+///
+/// let sheet = Family::EvenOdd { p: 3 }.sheet()?;
+/// let mut stripe = [0; 10];
+/// encode(&sheet, 1, &[1, 2, 3, 4, 5, 6], &mut stripe)?;
+/// let whole = stripe;
+///
+/// // Lightning takes disks 0 and 2: symbols 0, 1, 4 and 5.
+/// stripe[..2].fill(0xff);
+/// stripe[4..6].fill(0xff);
+/// let Planning::Plan { plan, reads } = plan_disks(&sheet, &[0, 2], &[])? else { panic!("EVENODD survives any two disks") };
+/// assert_eq!(check_disks(&sheet, &[0, 2], &plan), Ok(reads));
+/// rebuild_disks(&sheet, &[0, 2], &plan, 1, &mut stripe)?;
+/// assert_eq!(stripe, whole);
+///
+/// // A plan is for the disks that it was made for, no more and no fewer.
+/// assert_eq!(check_disks(&sheet, &[0], &plan), Err(Refusal::PlanOfAnotherDisk));
+/// assert_eq!(plan_disks(&sheet, &[2, 0], &[]), Err(Refusal::BadDiskList { position: 1 }));
+/// # Ok::<(), Refusal>(())
+/// ```
+pub fn plan_disks(sheet: &[u8], disks: &[u8], wanted: &[u8]) -> Result<Planning, Refusal> {
+    owned(|buffer| plan_disks_into(sheet, disks, wanted, buffer))
+}
+
+/// Plans the rebuild of several disks, as [`plan_disks`] does, into a buffer of [`PLAN_BUFFER`] bytes or more. The bytes after the plan
+/// stay.
+///
+/// # Errors
+///
+/// In this order: the code sheet's (1 to 6), [`Refusal::NoSuchDisk`], [`Refusal::BadDiskList`], [`Refusal::BadWantedList`],
+/// [`Refusal::PlanBufferTooShort`].
+pub fn plan_disks_into(sheet: &[u8], disks: &[u8], wanted: &[u8], buffer: &mut [u8]) -> Result<Planned, Refusal> {
+    planned(ffi::plan_disks(sheet, disks, wanted, buffer))
 }
 
 /// Planning's answer, by its case.
@@ -292,7 +352,24 @@ fn owned(plan_into: impl FnOnce(&mut [u8]) -> Result<Planned, Refusal>) -> Resul
 /// In this order: those of [`check`], [`Refusal::SymbolLength`], [`Refusal::StripeLength`].
 pub fn rebuild(sheet: &[u8], disk: u64, plan: &[u8], symbol_length: u64, stripe: &mut [u8]) -> Result<(), Refusal> {
     let verdict = ffi::rebuild(sheet, disk, plan, symbol_length, stripe);
-    unless_refused(verdict.number, verdict.place, ())
+    unless_plan_refused(plan, verdict.number, verdict.place, ())
+}
+
+/// Rebuilds the wanted symbols of failed disks by a plan, which is checked on every call. `disks` holds the disks' numbers, rising. All
+/// other bytes stay. What is written does not depend on what the disks' strips held.
+///
+/// # Errors
+///
+/// In this order: those of [`check_disks`], [`Refusal::SymbolLength`], [`Refusal::StripeLength`].
+pub fn rebuild_disks(
+    sheet: &[u8],
+    disks: &[u8],
+    plan: &[u8],
+    symbol_length: u64,
+    stripe: &mut [u8],
+) -> Result<(), Refusal> {
+    let verdict = ffi::rebuild_disks(sheet, disks, plan, symbol_length, stripe);
+    unless_plan_refused(plan, verdict.number, verdict.place, ())
 }
 
 /// The strip of a disk, as a part of the stripe.
@@ -339,7 +416,12 @@ fn cut(slice: &[u8], part: ffi::Part) -> &[u8] {
 }
 
 fn unless_refused<T>(number: u64, place: u64, answer: T) -> Result<T, Refusal> {
-    match Refusal::given(number, place) {
+    unless_plan_refused(&[], number, place, answer)
+}
+
+/// The answer of a call that took a plan, whose edition says how refusals name a wanted symbol.
+fn unless_plan_refused<T>(plan: &[u8], number: u64, place: u64, answer: T) -> Result<T, Refusal> {
+    match Refusal::given(number, place, WantedSymbol::naming(plan)) {
         None => Ok(answer),
         Some(refusal) => Err(refusal),
     }

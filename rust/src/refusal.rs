@@ -2,6 +2,41 @@
 use std::error::Error;
 use std::fmt;
 
+/// Which wanted symbol a refusal names, in the way of the plan sheet's edition.
+#[derive(Clone, Copy, Debug, PartialEq, Eq)]
+pub enum WantedSymbol {
+    /// By its row of the failed disk: editions 1 and 2.
+    Row(u64),
+    /// By its number: edition 3.
+    Symbol(u64),
+}
+
+impl WantedSymbol {
+    /// How a plan sheet's edition names a wanted symbol. Only a sheet of one of these editions is judged so far that one is named.
+    pub(crate) fn naming(plan: &[u8]) -> fn(u64) -> WantedSymbol {
+        match plan {
+            [6, 1 | 2, ..] => WantedSymbol::Row,
+            [5, 3, ..] => WantedSymbol::Symbol,
+            _ => WantedSymbol::Row,
+        }
+    }
+
+    fn place(self) -> u64 {
+        match self {
+            WantedSymbol::Row(place) | WantedSymbol::Symbol(place) => place,
+        }
+    }
+}
+
+impl fmt::Display for WantedSymbol {
+    fn fmt(&self, f: &mut fmt::Formatter<'_>) -> fmt::Result {
+        match self {
+            WantedSymbol::Row(row) => write!(f, "row {row} of the failed disk"),
+            WantedSymbol::Symbol(symbol) => write!(f, "symbol {symbol}"),
+        }
+    }
+}
+
 /// Why a call said no. A refused call changes no byte that it was lent.
 ///
 /// Each case has a number and a place, those of `docs/RULES.md` and of the header for C. Steps, rows and positions count from 0.
@@ -25,19 +60,19 @@ pub enum Refusal {
         /// The lowest such bit of that row.
         bit: u64,
     },
-    /// Refusal 7 is given when the asked disk isn't below n. Its place is 0.
+    /// Refusal 7 is given when an asked disk, or one that the plan sheet lists, isn't below n. Its place is 0.
     NoSuchDisk,
-    /// Refusal 11 is given when the plan sheet is shorter than its head, its list or its steps need. Its place is 0.
+    /// Refusal 11 is given when the plan sheet is shorter than its head, its lists or its steps need. Its place is 0.
     PlanSheetTooShort,
     /// Refusal 12 is given when bytes follow the last step of the plan sheet. Its place is 0.
     PlanSheetTooLong,
-    /// Refusal 13 is given when the plan sheet's first count isn't 6, or it has more than 1,024 steps. Its place is 0.
+    /// Refusal 13 is given when the plan sheet's first count isn't 6 or 5, or it has more than 1,024 steps. Its place is 0.
     PlanSheetCount,
-    /// Refusal 14 is given when the plan sheet's edition isn't 1 or 2. Its place is 0.
+    /// Refusal 14 is given when the plan sheet's edition isn't 1 or 2 with first count 6, or 3 with first count 5. Its place is 0.
     PlanSheetEdition,
     /// Refusal 15 is given when the plan sheet's n, r or K isn't the code's. Its place is 0.
     PlanOfAnotherCode,
-    /// Refusal 16 is given when the plan sheet's failed disk isn't the asked one. Its place is 0.
+    /// Refusal 16 is given when the plan sheet's failed disks aren't the asked ones. Its place is 0.
     PlanOfAnotherDisk,
     /// Refusal 17 is given when a step's kind is above 2, its target or source isn't below N, or it is a clear whose source byte
     /// isn't 0. Its place is the step.
@@ -45,7 +80,7 @@ pub enum Refusal {
         /// The step's number.
         step: u64,
     },
-    /// Refusal 18 is given when a step's target isn't a wanted symbol of the failed disk. Its place is the step.
+    /// Refusal 18 is given when a step's target isn't a wanted symbol. Its place is the step.
     TargetNotWanted {
         /// The step's number.
         step: u64,
@@ -61,16 +96,17 @@ pub enum Refusal {
         /// The step's number.
         step: u64,
     },
-    /// Refusal 20 is given when no step fills a wanted symbol. Its place is the lowest such row of the disk.
+    /// Refusal 20 is given when no step fills a wanted symbol. Its place is the lowest such symbol: its row of the disk, or its number
+    /// in edition 3.
     NeverFilled {
-        /// The row of the disk.
-        row: u64,
+        /// The symbol.
+        wanted: WantedSymbol,
     },
-    /// Refusal 21 is given when a wanted symbol does not come out right under this code. Its place is 64 times the lowest such row
-    /// of the disk, plus the lowest data symbol that is off: one that the steps leave out of it, or bring into it.
+    /// Refusal 21 is given when a wanted symbol does not come out right under this code. Its place is 64 times the lowest such symbol,
+    /// as with refusal 20, plus the lowest data symbol that is off: one that the steps leave out of it, or bring into it.
     EndsWrong {
-        /// The row of the disk.
-        row: u64,
+        /// The symbol.
+        wanted: WantedSymbol,
         /// The data symbol that is off.
         data_symbol: u64,
     },
@@ -80,9 +116,16 @@ pub enum Refusal {
         /// How many surviving symbols the plan reads.
         true_count: u64,
     },
-    /// Refusal 23 is given when a list of wanted symbols has no entry or more than r, with place 0, or else when an entry isn't above
-    /// the one before it or isn't on the failed disk. Its place is then the position of the first such entry.
+    /// Refusal 23 is given when a list of wanted symbols has more entries than there are lost symbols, or, for edition 2, none, with
+    /// place 0, or else when an entry isn't above the one before it or isn't on a failed disk. Its place is then the position of the
+    /// first such entry.
     BadWantedList {
+        /// The position in the list.
+        position: u64,
+    },
+    /// Refusal 24 is given when a list of failed disks has no entry or more than n, with place 0, or else when an entry isn't above the
+    /// one before it. Its place is then the position of the first such entry.
+    BadDiskList {
         /// The position in the list.
         position: u64,
     },
@@ -92,8 +135,8 @@ pub enum Refusal {
     StripeLength,
     /// Refusal 33 is given when the data isn't K × L bytes long. Its place is 0.
     DataLength,
-    /// Refusal 34 is given when the buffer for a plan is shorter than 3,081 bytes, or than 3,114 for a plan with a list. Its place
-    /// is 0.
+    /// Refusal 34 is given when the buffer for a plan is shorter than 3,081 bytes, than 3,114 for a plan with wanted symbols, or than
+    /// 3,210 for a plan for a list of disks. Its place is 0.
     PlanBufferTooShort,
     /// Refusal 35 is given when the spare strip isn't r × L bytes long. Its place is 0.
     SpareStripLength,
@@ -115,8 +158,9 @@ pub enum Refusal {
 }
 
 impl Refusal {
-    /// The refusal of a number and place as the library gives them; none for number 0.
-    pub(crate) fn given(number: u64, place: u64) -> Option<Refusal> {
+    /// The refusal of a number and place as the library gives them, with a wanted symbol named as the plan's edition does; none for
+    /// number 0.
+    pub(crate) fn given(number: u64, place: u64, wanted: fn(u64) -> WantedSymbol) -> Option<Refusal> {
         use Refusal::*;
         Some(match number {
             0 => return None,
@@ -137,10 +181,11 @@ impl Refusal {
             18 => TargetNotWanted { step: place },
             19 => UnfilledPlaceUsed { step: place },
             25 => StepOntoItself { step: place },
-            20 => NeverFilled { row: place },
-            21 => EndsWrong { row: place / 64, data_symbol: place % 64 },
+            20 => NeverFilled { wanted: wanted(place) },
+            21 => EndsWrong { wanted: wanted(place / 64), data_symbol: place % 64 },
             22 => WrongReadCount { true_count: place },
             23 => BadWantedList { position: place },
+            24 => BadDiskList { position: place },
             31 => SymbolLength,
             32 => StripeLength,
             33 => DataLength,
@@ -178,6 +223,7 @@ impl Refusal {
             EndsWrong { .. } => 21,
             WrongReadCount { .. } => 22,
             BadWantedList { .. } => 23,
+            BadDiskList { .. } => 24,
             SymbolLength => 31,
             StripeLength => 32,
             DataLength => 33,
@@ -195,11 +241,14 @@ impl Refusal {
         use Refusal::*;
         match *self {
             StrayBit { row, bit } => row * 64 + bit,
-            MalformedStep { step } | TargetNotWanted { step } | StepOntoItself { step } | UnfilledPlaceUsed { step } => step,
-            NeverFilled { row } => row,
-            EndsWrong { row, data_symbol } => row * 64 + data_symbol,
+            MalformedStep { step }
+            | TargetNotWanted { step }
+            | StepOntoItself { step }
+            | UnfilledPlaceUsed { step } => step,
+            NeverFilled { wanted } => wanted.place(),
+            EndsWrong { wanted, data_symbol } => wanted.place() * 64 + data_symbol,
             WrongReadCount { true_count } => true_count,
-            BadWantedList { position } => position,
+            BadWantedList { position } | BadDiskList { position } => position,
             Unlisted { place, .. } => place,
             CodeSheetTooShort | CodeSheetTooLong | CodeSheetCount | CodeSheetEdition | CodeBeyondLimit | NoSuchDisk => {
                 0
@@ -218,21 +267,23 @@ impl fmt::Display for Refusal {
         match self {
             StrayBit { row, bit } => write!(f, "row {row} of the code has bit {bit} set, which is not below K"),
             MalformedStep { step } => write!(f, "step {step} is malformed"),
-            TargetNotWanted { step } => write!(f, "the target of step {step} isn't a wanted symbol of the failed disk"),
+            TargetNotWanted { step } => write!(f, "the target of step {step} isn't a wanted symbol"),
             StepOntoItself { step } => write!(f, "step {step} copies or adds a symbol onto itself"),
             UnfilledPlaceUsed { step } => write!(f, "step {step} uses a lost place that no earlier step has filled"),
-            NeverFilled { row } => write!(f, "row {row} of the failed disk is never filled"),
-            EndsWrong { row, data_symbol } => {
-                write!(f, "row {row} of the failed disk ends wrong: data symbol {data_symbol} is off")
-            }
+            NeverFilled { wanted } => write!(f, "{wanted} is never filled"),
+            EndsWrong { wanted, data_symbol } => write!(f, "{wanted} ends wrong: data symbol {data_symbol} is off"),
             WrongReadCount { true_count } => write!(f, "the plan's read count is wrong: it reads {true_count} symbols"),
             BadWantedList { position: 0 } => write!(
                 f,
-                "the list of wanted symbols is empty, longer than the disk has rows, or its entry 0 isn't on the failed disk"
+                "the list of wanted symbols is empty, has more entries than there are lost symbols, or its entry 0 isn't on a failed disk"
             ),
             BadWantedList { position } => {
-                write!(f, "entry {position} of the list of wanted symbols doesn't rise or isn't on the failed disk")
+                write!(f, "entry {position} of the list of wanted symbols doesn't rise or isn't on a failed disk")
             }
+            BadDiskList { position: 0 } => {
+                f.write_str("the list of failed disks is empty or has more entries than there are disks")
+            }
+            BadDiskList { position } => write!(f, "entry {position} of the list of failed disks doesn't rise"),
             Unlisted { number, place } => write!(f, "refusal {number} at {place}, which has no name here"),
             placeless => f.write_str(placeless.sentence()),
         }
@@ -253,24 +304,25 @@ impl Refusal {
             PlanSheetTooShort => "the plan sheet is too short",
             PlanSheetTooLong => "the plan sheet is too long",
             PlanSheetCount => {
-                "a count of the plan sheet is wrong: the first byte must be 6, and there are at most 1,024 steps"
+                "a count of the plan sheet is wrong: the first byte must be 6 or 5, and there are at most 1,024 steps"
             }
-            PlanSheetEdition => "the plan sheet's edition isn't 1 or 2",
+            PlanSheetEdition => "the plan sheet's edition isn't 1 or 2 with first byte 6, or 3 with first byte 5",
             PlanOfAnotherCode => "the plan was made for another layout: its n, r or K isn't the code's",
-            PlanOfAnotherDisk => "the plan was made for another disk",
+            PlanOfAnotherDisk => "the plan was made for another disk, or for other disks",
             SymbolLength => "a symbol is 1 to 65,536 bytes long",
             StripeLength => "the stripe isn't N symbols long",
             DataLength => "the data isn't K symbols long",
-            PlanBufferTooShort => "a plan needs a buffer of 3,081 bytes or more, and of 3,114 or more with a list",
+            PlanBufferTooShort => {
+                "a plan needs a buffer of 3,081 bytes or more, 3,114 with wanted symbols, 3,210 for a list of disks"
+            }
             SpareStripLength => "the spare strip isn't r symbols long",
             NotInFamily => "the family has no code with these parameters",
             SheetBufferTooShort => "the buffer is shorter than the code sheet",
             NoSuchSymbol => "the array has no such symbol",
             StrayBit { .. } | MalformedStep { .. } | TargetNotWanted { .. } | UnfilledPlaceUsed { .. } => "",
             StepOntoItself { .. } => "",
-            NeverFilled { .. } | EndsWrong { .. } | WrongReadCount { .. } | BadWantedList { .. } | Unlisted { .. } => {
-                ""
-            }
+            NeverFilled { .. } | EndsWrong { .. } | WrongReadCount { .. } => "",
+            BadWantedList { .. } | BadDiskList { .. } | Unlisted { .. } => "",
         }
     }
 }
@@ -279,8 +331,13 @@ impl Error for Refusal {}
 
 #[cfg(test)]
 mod tests {
-    use super::Refusal;
+    use super::{Refusal, WantedSymbol};
     use std::collections::HashSet;
+
+    /// A refusal as a call gives it that was lent no plan.
+    fn given(number: u64, place: u64) -> Option<Refusal> {
+        Refusal::given(number, place, WantedSymbol::naming(&[]))
+    }
 
     /// The numbers at the head of a table's rows: those of a text's lines after the one that begins with `title`, up to `end`.
     fn table(text: &str, title: &str, end: &str, head: std::ops::Range<usize>) -> Vec<u64> {
@@ -296,7 +353,7 @@ mod tests {
         table(include_str!("../../include/navorzim.h"), " *   number  given when", " *", 3..11)
     }
 
-    /// Those of the table in the rules, where 23 has two rows.
+    /// Those of the table in the rules, where 23 and 24 have two rows.
     fn of_the_rules() -> Vec<u64> {
         let mut numbers = table(include_str!("../../docs/RULES.md"), "| no. | given when", "", 0..5);
         numbers.dedup();
@@ -307,11 +364,11 @@ mod tests {
     fn every_number_of_the_table_has_its_refusal() {
         let numbers = of_the_header();
         assert_eq!(numbers, of_the_rules());
-        assert_eq!((numbers.len(), numbers.iter().max()), (29, Some(&38)));
-        assert_eq!(Refusal::given(0, 0), None);
+        assert_eq!((numbers.len(), numbers.iter().max()), (30, Some(&38)));
+        assert_eq!(given(0, 0), None);
         let mut sentences = HashSet::new();
         for number in numbers {
-            let refusal = Refusal::given(number, 0).expect("a refusal");
+            let refusal = given(number, 0).expect("a refusal");
             assert!(!matches!(refusal, Refusal::Unlisted { .. }));
             assert_eq!((refusal.number(), refusal.place()), (number, 0));
             assert!(refusal.to_string().len() > 10 && sentences.insert(refusal.to_string()), "{refusal} is said twice");
@@ -323,7 +380,7 @@ mod tests {
         let listed: HashSet<u64> = of_the_header().into_iter().collect();
         let others = (1..1000).chain([u64::from(u32::MAX) + 38, u64::MAX]).filter(|number| !listed.contains(number));
         for number in others {
-            let refusal = Refusal::given(number, 7).expect("a refusal, not an answer");
+            let refusal = given(number, 7).expect("a refusal, not an answer");
             assert_eq!(refusal, Refusal::Unlisted { number, place: 7 });
             assert_eq!((refusal.number(), refusal.place()), (number, 7));
             assert!(refusal.to_string().contains(&format!("{number} at 7")));
@@ -332,11 +389,26 @@ mod tests {
 
     #[test]
     fn places_are_kept() {
-        for number in [6, 17, 18, 19, 20, 21, 22, 23, 25] {
+        for number in [6, 17, 18, 19, 20, 21, 22, 23, 24, 25] {
             for place in [0, 1, 63, 64, 1023, 4095] {
-                let refusal = Refusal::given(number, place).expect("a refusal");
-                assert_eq!((refusal.number(), refusal.place()), (number, place));
+                for plan in [&[][..], &[6, 1], &[6, 2], &[5, 3]] {
+                    let refusal = Refusal::given(number, place, WantedSymbol::naming(plan)).expect("a refusal");
+                    assert_eq!((refusal.number(), refusal.place()), (number, place));
+                }
             }
+        }
+    }
+
+    #[test]
+    fn wanted_symbols_are_named_by_the_edition() {
+        for (plan, number, place, said) in [
+            (&[6, 1][..], 20, 3, "row 3 of the failed disk is never filled"),
+            (&[6, 2], 21, 3 * 64 + 5, "row 3 of the failed disk ends wrong: data symbol 5 is off"),
+            (&[5, 3], 20, 63, "symbol 63 is never filled"),
+            (&[5, 3], 21, 63 * 64 + 5, "symbol 63 ends wrong: data symbol 5 is off"),
+        ] {
+            let refusal = Refusal::given(number, place, WantedSymbol::naming(plan)).expect("a refusal");
+            assert_eq!((refusal.place(), refusal.to_string()), (place, said.to_string()));
         }
     }
 }

@@ -1,9 +1,9 @@
 //! The proved library against an independent reading of the rules (`model`): random, special and damaged inputs, every answer and every
-//! lent byte compared. Each test prints its seed and how many calls it made: together they are more than 400,000.
+//! lent byte compared. Each test prints its seed and how many calls it made: together they are more than 700,000.
 mod model;
 
 use model::random::{self, Random};
-use model::No;
+use model::{Asked, No};
 use navorzim::{Family, Planned, Planning, Refusal};
 
 /// An answer of the library as the model gives it.
@@ -27,53 +27,80 @@ fn sheet(random: &mut Random) -> (model::Code, Vec<u8>) {
     (code, sheet)
 }
 
-/// The library's plan for a disk, or for a list of its symbols.
-fn planned(sheet: &[u8], disk: usize, list: Option<&[u8]>, buffer: &mut [u8]) -> Result<Planned, Refusal> {
-    match list {
-        None => navorzim::plan_into(sheet, disk as u64, buffer),
-        Some(list) => navorzim::plan_wanted_into(sheet, disk as u64, list, buffer),
+/// The library's planning.
+fn planned(sheet: &[u8], asked: Asked, buffer: &mut [u8]) -> Result<Planned, Refusal> {
+    match asked {
+        Asked::Disk(disk) => navorzim::plan_into(sheet, disk, buffer),
+        Asked::Wanted(disk, list) => navorzim::plan_wanted_into(sheet, disk, list, buffer),
+        Asked::Disks(disks, list) => navorzim::plan_disks_into(sheet, disks, list, buffer),
     }
 }
 
-/// A plan sheet of either edition that clears what it wants.
-fn clears(code: &model::Code, disk: usize, list: Option<&[u8]>) -> Vec<u8> {
-    let edition = if list.is_some() { 2 } else { 1 };
-    let mut plan = vec![6, edition, code.disks as u8, code.height as u8, code.data as u8, disk as u8, 0];
-    let strip: Vec<u8> = code.strip(disk).map(|s| s as u8).collect();
-    plan.extend(list.map(|list| list.len() as u8));
-    plan.extend(list.unwrap_or(&[]));
-    let wanted = list.unwrap_or(&strip);
+/// A sheet's bytes up to its step count: of edition 1, of edition 2 with a list, or of edition 3 with two.
+fn head(code: &model::Code, asked: Asked, reads: u8) -> Vec<u8> {
+    let [n, r, k] = [code.disks as u8, code.height as u8, code.data as u8];
+    match asked {
+        Asked::Disk(disk) => vec![6, 1, n, r, k, disk as u8, reads],
+        Asked::Wanted(disk, list) => [&[6, 2, n, r, k, disk as u8, reads, list.len() as u8], list].concat(),
+        Asked::Disks(disks, list) => {
+            [&[5, 3, n, r, k, reads, disks.len() as u8], disks, &[list.len() as u8], list].concat()
+        }
+    }
+}
+
+/// The bytes before a sheet's steps.
+fn head_length(asked: Asked) -> usize {
+    match asked {
+        Asked::Disk(_) => 9,
+        Asked::Wanted(_, list) => 10 + list.len(),
+        Asked::Disks(disks, list) => 10 + disks.len() + list.len(),
+    }
+}
+
+/// A plan sheet that clears what it wants.
+fn clears(code: &model::Code, asked: Asked) -> Vec<u8> {
+    let all = |disks: &[u8]| code.strips(disks).into_iter().map(|s| s as u8).collect();
+    let wanted: Vec<u8> = match asked {
+        Asked::Disk(disk) => all(&[disk as u8]),
+        Asked::Disks(disks, []) => all(disks),
+        Asked::Wanted(_, list) | Asked::Disks(_, list) => list.to_vec(),
+    };
+    let mut plan = head(code, asked, 0);
     plan.extend((wanted.len() as u16).to_le_bytes());
     plan.extend(wanted.iter().flat_map(|&s| [0, s, 0]));
     plan
 }
 
-/// The bytes before a sheet's steps.
-fn head_length(list: Option<&[u8]>) -> usize {
-    list.map_or(9, |list| 10 + list.len())
-}
-
-/// A plan for a disk, of either edition: the library's own where there is one, else clears; one in two damaged.
-fn plan(random: &mut Random, code: &model::Code, disk: usize) -> Vec<u8> {
-    let list = random.one_in(2).then(|| random::list(random, code, disk));
-    let list = list.as_deref();
-    let mut buffer = vec![0; navorzim::PLAN_BUFFER];
-    let mut plan = match planned(&code.sheet(), disk, list, &mut buffer) {
-        Ok(Planned::Plan { length, .. }) => buffer[..length].to_vec(),
-        _ => clears(code, disk, list),
+/// A plan for disks, of any edition that can be for them: the library's own where there is one, else clears; one in two damaged.
+fn plan(random: &mut Random, code: &model::Code, disks: &[u8]) -> Vec<u8> {
+    let list = random::list(random, code, disks);
+    let asked = match (disks, random.below(4)) {
+        (&[disk], 0) => Asked::Disk(disk.into()),
+        (&[disk], 1) => Asked::Wanted(disk.into(), &list),
+        (_, 2) => Asked::Disks(disks, &list),
+        _ => Asked::Disks(disks, &[]),
     };
-    let head = head_length(list);
-    match random.below(10) {
+    let mut buffer = vec![0; navorzim::PLAN_BUFFER];
+    let mut plan = match planned(&code.sheet(), asked, &mut buffer) {
+        Ok(Planned::Plan { length, .. }) => buffer[..length].to_vec(),
+        _ => clears(code, asked),
+    };
+    let head = head_length(asked);
+    match random.below(12) {
         0 => plan = random::damaged(random, &plan),
-        1 => plan[6] = random.next() as u8,
+        1 => {
+            let reads = if plan[0] == 5 { 5 } else { 6 };
+            plan[reads] = random.next() as u8;
+        }
         2 | 3 if plan.len() > head => {
             // One byte of one step.
             let at = head + random.below(plan.len() - head);
-            let (symbol, lost) = (random.below(code.symbols()) as u8, random.pick(&[0, code.height - 1]));
-            plan[at] = random.pick(&[0, 1, 2, 3, code.symbols() as u8, symbol, (code.strip(disk).start + lost) as u8]);
+            let (symbol, lost) = (random.below(code.symbols()) as u8, random.pick(&code.strips(disks)) as u8);
+            plan[at] = random.pick(&[0, 1, 2, 3, code.symbols() as u8, symbol, lost]);
         }
         4 if plan.len() > head + 3 => change_step(random, &mut plan, head),
-        5 | 6 => change_list(random, code, disk, list, &mut plan),
+        5 | 6 => change_lists(random, code, disks, head, &mut plan),
+        7 => plan[random.below(2)] = random.pick(&[0, 1, 2, 3, 4, 5, 6, 7]),
         _ => {}
     }
     plan
@@ -92,20 +119,31 @@ fn change_step(random: &mut Random, plan: &mut Vec<u8>, head: usize) {
     plan[head - 2..head].copy_from_slice(&(steps as u16).to_le_bytes());
 }
 
-/// The same steps with another list: a good one, a bad one, or one whose count lies; at times with too many steps besides.
-fn change_list(random: &mut Random, code: &model::Code, disk: usize, list: Option<&[u8]>, plan: &mut Vec<u8>) {
-    let mut steps = plan.split_off(head_length(list) - 2);
+/// The same steps with other lists: good ones, bad ones, or some whose count lies; at times with too many steps besides.
+fn change_lists(random: &mut Random, code: &model::Code, disks: &[u8], head_length: usize, plan: &mut Vec<u8>) {
+    let (mut steps, reads) = (plan.split_off(head_length - 2), if plan[0] == 5 { plan[5] } else { plan[6] });
     if random.one_in(6) {
         steps[..2].copy_from_slice(&random.pick(&[1025u16, 1024, 65535, 0]).to_le_bytes());
     }
-    let mut other = random::list(random, code, disk);
+    let mut list = random::list(random, code, disks);
     if random.one_in(2) {
-        other = random::damaged_list(random, code, &other);
+        list = random::damaged_list(random, code, &list);
     }
-    plan.truncate(7);
-    plan[1] = 2;
-    plan.push(if random.one_in(6) { random.next() as u8 } else { other.len() as u8 });
-    plan.extend(other);
+    list.truncate(255);
+    let mut other = disks.to_vec();
+    if random.one_in(2) {
+        other = random::damaged_disks(random, code, disks);
+    }
+    other.truncate(255);
+    let asked = match (disks, random.one_in(2)) {
+        (&[disk], true) => Asked::Wanted(disk.into(), &list),
+        _ => Asked::Disks(&other, &list),
+    };
+    *plan = head(code, asked, reads);
+    if random.one_in(6) {
+        let counts = [if plan[0] == 5 { 6 } else { 7 }, plan.len() - list.len() - 1];
+        plan[random.pick(&counts)] = random.next() as u8;
+    }
     plan.extend(steps);
 }
 
@@ -113,7 +151,14 @@ fn change_list(random: &mut Random, code: &model::Code, disk: usize, list: Optio
 fn families() {
     let mut random = Random::new(1);
     let mut parameters: Vec<(u64, u64)> = (0..70).flat_map(|a| (0..40).map(move |b| (a, b))).collect();
-    parameters.extend([(u64::MAX, 1), (1, u64::MAX), (1 << 63, 2), (u64::MAX, u64::MAX), (5, 1 << 32), ((1 << 32) + 3, 0)]);
+    parameters.extend([
+        (u64::MAX, 1),
+        (1, u64::MAX),
+        (1 << 63, 2),
+        (u64::MAX, u64::MAX),
+        (5, 1 << 32),
+        ((1 << 32) + 3, 0),
+    ]);
     calls(4 * parameters.len());
     for (a, b) in parameters {
         for (name, family) in [
@@ -182,69 +227,124 @@ fn encoding() {
     }
 }
 
+/// How many plans of each edition were accepted, and how many refused by each number.
+#[derive(Default)]
+struct Judged {
+    accepted: [u32; 4],
+    refused: [[u32; 26]; 4],
+}
+
+impl Judged {
+    fn count(&mut self, plan: &[u8], answer: Result<u64, No>) {
+        let edition = match plan {
+            [6, edition @ (1 | 2), ..] | [5, edition @ 3, ..] => *edition as usize,
+            _ => 0,
+        };
+        match answer {
+            Ok(_) => self.accepted[edition] += 1,
+            Err((number, _)) => self.refused[edition][number as usize] += 1,
+        }
+    }
+
+    /// Prints them, and asks for so many accepted plans of an edition and more than 50 refused by each of these numbers.
+    fn enough(&self, edition: usize, accepted: u32, numbers: &[usize]) {
+        let refused = &self.refused[edition];
+        println!("edition {edition}: accepted {}, refused, by number: {refused:?}", self.accepted[edition]);
+        assert!(self.accepted[edition] >= accepted, "only {} plans of edition {edition}", self.accepted[edition]);
+        assert!(numbers.iter().all(|&number| refused[number] > 50), "edition {edition}: {refused:?}");
+    }
+}
+
 #[test]
 fn checking() {
     let mut random = Random::new(3);
-    let (mut accepted, mut refused) = ([0; 3], [0; 26]);
+    let mut judged = Judged::default();
     for _ in 0..calls(120_000) {
         let (code, sheet) = sheet(&mut random);
-        let disk = random.below(code.disks);
-        let plan = plan(&mut random, &code, disk);
-        let asked = if random.one_in(6) { random::index(&mut random, code.disks) } else { disk as u64 };
+        let disk = random.below(code.disks) as u8;
+        let plan = plan(&mut random, &code, &[disk]);
+        let asked = if random.one_in(6) { random::index(&mut random, code.disks) } else { disk.into() };
         let expected = model::check(&sheet, asked, &plan);
-        match expected {
-            Ok(_) => accepted[plan[1] as usize] += 1,
-            Err((number, _)) if plan.get(1) == Some(&2) => refused[number as usize] += 1,
-            Err(_) => {}
-        }
+        judged.count(&plan, expected);
         assert_eq!(told(navorzim::check(&sheet, asked, &plan)), expected, "{sheet:?} {asked} {plan:?}");
     }
-    println!(
-        "accepted {} of edition 1, {} of edition 2; refused of edition 2, by number: {refused:?}",
-        accepted[1], accepted[2]
-    );
-    assert!(accepted[1] > 5_000 && accepted[2] > 5_000, "only {accepted:?} plans were accepted");
-    let given = |number: usize| matches!(number, 14 | 24) || refused[number] > 50;
-    assert!((11..26).all(given), "{refused:?}");
+    judged.enough(0, 0, &[13, 14]);
+    judged.enough(1, 5_000, &[7, 15, 16, 17, 18, 19, 20, 21, 22, 25]);
+    judged.enough(2, 5_000, &[7, 11, 12, 13, 15, 16, 17, 18, 19, 20, 21, 22, 23, 25]);
+    judged.enough(3, 5_000, &[7, 11, 12, 13, 15, 16, 17, 18, 19, 20, 21, 22, 23, 24, 25]);
+}
+
+#[test]
+fn checking_for_a_list_of_disks() {
+    let mut random = Random::new(13);
+    let mut judged = Judged::default();
+    for _ in 0..calls(120_000) {
+        let (code, sheet) = sheet(&mut random);
+        let disks = random::disks(&mut random, &code);
+        let plan = plan(&mut random, &code, &disks);
+        let mut asked = disks;
+        if random.one_in(6) {
+            asked = random::damaged_disks(&mut random, &code, &asked);
+        }
+        let expected = model::check_disks(&sheet, &asked, &plan);
+        judged.count(&plan, expected);
+        assert_eq!(told(navorzim::check_disks(&sheet, &asked, &plan)), expected, "{sheet:?} {asked:?} {plan:?}");
+    }
+    judged.enough(1, 1_000, &[7, 16, 21, 24]);
+    judged.enough(2, 1_000, &[7, 16, 21, 23, 24]);
+    judged.enough(3, 5_000, &[7, 11, 12, 13, 15, 16, 17, 18, 19, 20, 21, 22, 23, 24, 25]);
 }
 
 /// Planning's answer, if nothing was refused.
-#[derive(Clone, Copy, PartialEq)]
+#[derive(Clone, Copy, Debug, PartialEq)]
 enum Answer {
     Plan,
     Pattern,
 }
 
 /// Plans into a buffer that held `before`, and holds the answer and every byte to the rules.
-fn judged_planning(sheet: &[u8], disk: u64, list: Option<&[u8]>, before: &[u8]) -> Option<Answer> {
+fn judged_planning(sheet: &[u8], asked: Asked, before: &[u8]) -> Option<Answer> {
     let mut buffer = before.to_vec();
-    let answer = told(match list {
-        None => navorzim::plan_into(sheet, disk, &mut buffer),
-        Some(list) => navorzim::plan_wanted_into(sheet, disk, list, &mut buffer),
-    });
-    let context = || format!("{sheet:?} {disk} {list:?}");
-    match (model::plan_refusal(sheet, disk, list, before.len()), answer) {
+    let answer = told(planned(sheet, asked, &mut buffer));
+    let context = || format!("{sheet:?} {asked:?}");
+    match (model::plan_refusal(sheet, asked, before.len()), answer) {
         (Err(no), answer) => {
             assert_eq!((answer, &buffer[..]), (Err(no), before), "{}", context());
             None
         }
-        (Ok((code, disk, wanted)), Ok(Planned::Plan { length, reads })) => {
-            let most = code.height * (code.symbols() - code.height);
-            assert!(model::can_be_rebuilt(&code, disk, &wanted), "{}", context());
-            let written = model::read_plan(&code, disk, &buffer[..length]).expect("a whole sheet");
-            assert_eq!((written.wanted, buffer[1]), (wanted, 1 + list.is_some() as u8), "{}", context());
-            assert!(written.steps.len() <= most, "{}", context());
-            assert_eq!(model::check(sheet, disk as u64, &buffer[..length]), Ok(reads), "{}", context());
+        (Ok((code, disks, wanted)), Ok(Planned::Plan { length, reads })) => {
+            assert!(model::can_be_rebuilt(&code, &disks, &wanted), "{}", context());
+            let head = head(&code, asked, reads as u8);
+            assert_eq!(buffer[..head.len()], head, "{}", context());
+            let written = model::read_plan(&code, &disks, &buffer[..length]).expect("a whole sheet");
+            steps_within_the_bound(&code, &disks, &written);
+            assert_eq!(written.wanted, wanted, "{}", context());
+            assert_eq!(model::check_disks(sheet, &disks, &buffer[..length]), Ok(reads), "{}", context());
             assert_eq!(&buffer[length..], &before[length..], "{}", context());
             Some(Answer::Plan)
         }
-        (Ok((code, disk, wanted)), Ok(Planned::Pattern(pattern))) => {
-            assert!(!model::can_be_rebuilt(&code, disk, &wanted), "{}", context());
-            assert!(model::good_pattern(&code, disk, &wanted, pattern, 1 + disk % 3), "{} {pattern}", context());
+        (Ok((code, disks, wanted)), Ok(Planned::Pattern(pattern))) => {
+            let size = 1 + wanted.len() % 3;
+            assert!(!model::can_be_rebuilt(&code, &disks, &wanted), "{}", context());
+            assert!(model::good_pattern(&code, &disks, &wanted, pattern, size), "{} {pattern}", context());
             assert_eq!(buffer, before, "{}", context());
             Some(Answer::Pattern)
         }
         (Ok(_), Err(no)) => panic!("refused {no:?} {}", context()),
+    }
+}
+
+/// Lost symbols times survivors; if nothing survives, at most one clear a wanted symbol.
+fn steps_within_the_bound(code: &model::Code, disks: &[u8], plan: &model::Plan) {
+    let lost = code.strips(disks).len();
+    if lost == code.symbols() {
+        assert!(
+            plan.steps.len() <= plan.wanted.len() && plan.steps.iter().all(|step| step[0] == 0),
+            "{:?}",
+            plan.steps
+        );
+    } else {
+        assert!(plan.steps.len() <= lost * (code.symbols() - lost), "{} steps", plan.steps.len());
     }
 }
 
@@ -257,7 +357,7 @@ fn planning() {
         let disk = random::index(&mut random, code.disks);
         let length = if random.one_in(8) { random.pick(&[0, 9, 3080]) } else { 3081 + random.pick(&[0, 0, 0, 1, 50]) };
         let before = random.bytes(length);
-        let answer = judged_planning(&sheet, disk, None, &before);
+        let answer = judged_planning(&sheet, Asked::Disk(disk), &before);
         plans += (answer == Some(Answer::Plan)) as u32;
         patterns += (answer == Some(Answer::Pattern)) as u32;
     }
@@ -270,28 +370,57 @@ fn planning_with_a_list() {
     let (mut plans, mut patterns, mut rescued) = (0, 0, 0);
     for _ in 0..calls(80_000) {
         let (code, sheet) = sheet(&mut random);
-        let disk = random.below(code.disks);
-        let mut list = random::list(&mut random, &code, disk);
+        let disk = random.below(code.disks) as u8;
+        let mut list = random::list(&mut random, &code, &[disk]);
         if random.one_in(4) {
             list = random::damaged_list(&mut random, &code, &list);
         }
-        let asked = if random.one_in(8) { random::index(&mut random, code.disks) } else { disk as u64 };
+        let asked = if random.one_in(8) { random::index(&mut random, code.disks) } else { disk.into() };
         let length =
             if random.one_in(8) { random.pick(&[0, 3081, 3113]) } else { 3114 + random.pick(&[0, 0, 0, 1, 50]) };
         let before = random.bytes(length);
-        let answer = judged_planning(&sheet, asked, Some(&list), &before);
+        let answer = judged_planning(&sheet, Asked::Wanted(asked, &list), &before);
         plans += (answer == Some(Answer::Plan)) as u32;
         patterns += (answer == Some(Answer::Pattern)) as u32;
         // Some symbols of a disk that as a whole has no plan.
         let rescue = answer == Some(Answer::Plan) && list.len() < code.height;
-        rescued += (rescue && judged_planning(&sheet, asked, None, &before) == Some(Answer::Pattern)) as u32;
+        rescued += (rescue && judged_planning(&sheet, Asked::Disk(asked), &before) == Some(Answer::Pattern)) as u32;
     }
     println!("{plans} plans, {patterns} patterns, {rescued} plans for symbols of a disk that has none");
     assert!(plans > 20_000 && patterns > 5_000 && rescued > 500, "{plans} {patterns} {rescued}");
 }
 
-/// A stripe for a rebuild: a valid one with its strip ruined, and what it was, or any bytes.
-fn stripe(random: &mut Random, code: &model::Code, disk: usize, size: u64) -> (Vec<u8>, Option<Vec<u8>>) {
+#[test]
+fn planning_for_a_list_of_disks() {
+    let mut random = Random::new(18);
+    let (mut plans, mut patterns, mut rescued) = ([0; 3], [0; 3], 0);
+    for _ in 0..calls(80_000) {
+        let (code, sheet) = sheet(&mut random);
+        let mut disks = random::disks(&mut random, &code);
+        let mut list = if random.one_in(2) { Vec::new() } else { random::list(&mut random, &code, &disks) };
+        if !list.is_empty() && random.one_in(4) {
+            list = random::damaged_list(&mut random, &code, &list);
+        }
+        if random.one_in(6) {
+            disks = random::damaged_disks(&mut random, &code, &disks);
+        }
+        let length =
+            if random.one_in(8) { random.pick(&[0, 3081, 3114, 3209]) } else { 3210 + random.pick(&[0, 0, 0, 1, 50]) };
+        let before = random.bytes(length);
+        let answer = judged_planning(&sheet, Asked::Disks(&disks, &list), &before);
+        let several = disks.len().min(2);
+        plans[several] += (answer == Some(Answer::Plan)) as u32;
+        patterns[several] += (answer == Some(Answer::Pattern)) as u32;
+        let rescue = answer == Some(Answer::Plan) && !list.is_empty();
+        rescued +=
+            (rescue && judged_planning(&sheet, Asked::Disks(&disks, &[]), &before) == Some(Answer::Pattern)) as u32;
+    }
+    println!("plans {plans:?}, patterns {patterns:?} for one disk and for several, {rescued} plans for symbols of disks that have none");
+    assert!(plans[2] > 8_000 && patterns[2] > 8_000 && rescued > 500, "{plans:?} {patterns:?} {rescued}");
+}
+
+/// A stripe for a rebuild: a valid one with its lost strips ruined, and what it was, or any bytes.
+fn stripe(random: &mut Random, code: &model::Code, disks: &[u8], size: u64) -> (Vec<u8>, Option<Vec<u8>>) {
     let length = random::length(random, code.symbols(), size);
     if !(1..=4096).contains(&size) || length != code.symbols() * size as usize || random.one_in(2) {
         return (random.bytes(length), None);
@@ -300,59 +429,94 @@ fn stripe(random: &mut Random, code: &model::Code, disk: usize, size: u64) -> (V
     let data = random.bytes(code.data * size);
     let whole = model::scatter(code, size, &data);
     let mut ruined = whole.clone();
-    ruin(random, code, disk, size, &mut ruined);
+    ruin(random, code, disks, size, &mut ruined);
     (ruined, Some(whole))
 }
 
-/// Other bytes in the lost strip.
-fn ruin(random: &mut Random, code: &model::Code, disk: usize, size: usize, stripe: &mut [u8]) {
-    let strip = code.strip(disk).start * size..code.strip(disk).end * size;
-    let bytes = random.bytes(strip.len());
-    stripe[strip].copy_from_slice(&bytes);
+/// Other bytes in the lost strips.
+fn ruin(random: &mut Random, code: &model::Code, disks: &[u8], size: usize, stripe: &mut [u8]) {
+    for s in code.strips(disks) {
+        let bytes = random.bytes(size);
+        stripe[s * size..(s + 1) * size].copy_from_slice(&bytes);
+    }
+}
+
+/// A rebuild of one disk through the call for it, at times, else through the call for a list.
+fn rebuilt(sheet: &[u8], disks: &[u8], plan: &[u8], size: u64, stripe: &mut [u8]) -> Result<(), No> {
+    told(match disks {
+        &[disk] if size % 2 == 1 => navorzim::rebuild(sheet, disk.into(), plan, size, stripe),
+        _ => navorzim::rebuild_disks(sheet, disks, plan, size, stripe),
+    })
+}
+
+/// How many rebuilds gave valid stripes back, and how many left lost symbols that weren't wanted.
+#[derive(Default)]
+struct Rebuilt {
+    restored: u32,
+    kept: u32,
+}
+
+/// Rebuilds a stripe and holds the answer and every byte to the rules.
+fn judged_rebuild(random: &mut Random, (code, sheet): (&model::Code, &[u8]), disks: &[u8], counts: &mut Rebuilt) {
+    let plan = plan(random, code, disks);
+    let size = random::size(random);
+    let (before, whole) = stripe(random, code, disks, size);
+    let mut after = before.clone();
+    let answer = rebuilt(sheet, disks, &plan, size, &mut after);
+    let context = || format!("{sheet:?} {disks:?} {plan:?} {size}");
+    let expected = match model::rebuild_disks(sheet, disks, &plan, size, &before) {
+        Err(no) => return assert_eq!((answer, after), (Err(no), before), "{}", context()),
+        Ok(expected) => expected,
+    };
+    assert_eq!((answer, &after), (Ok(()), &expected), "{}", context());
+    // The sheet that was read may be a damaged one: it says where things are.
+    let (intact, code) = (sheet == code.sheet(), model::read_code(sheet).expect("it was taken"));
+    let unwanted = unwanted(&code, disks, &plan);
+    counts.kept += (!unwanted.is_empty()) as u32;
+    symbols_agree(&before, &after, size as usize, &unwanted, "an unwanted symbol changed");
+    let mut other = before;
+    ruin(random, &code, disks, size as usize, &mut other);
+    assert_eq!(rebuilt(sheet, disks, &plan, size, &mut other), Ok(()));
+    let rest: Vec<usize> = (0..code.symbols()).filter(|s| !unwanted.contains(s)).collect();
+    symbols_agree(&after, &other, size as usize, &rest, "the result depends on the lost strips");
+    if let (Some(whole), true) = (whole, intact) {
+        counts.restored += 1;
+        symbols_agree(&after, &whole, size as usize, &rest, "a wanted symbol isn't back");
+    }
 }
 
 #[test]
 fn rebuilding() {
     let mut random = Random::new(5);
-    let (mut restored, mut kept) = (0, 0);
+    let mut counts = Rebuilt::default();
     for _ in 0..calls(60_000) {
         let (code, sheet) = sheet(&mut random);
-        let disk = random.below(code.disks);
-        let plan = plan(&mut random, &code, disk);
-        let size = random::size(&mut random);
-        let (before, whole) = stripe(&mut random, &code, disk, size);
-        let mut after = before.clone();
-        let answer = told(navorzim::rebuild(&sheet, disk as u64, &plan, size, &mut after));
-        let context = || format!("{sheet:?} {disk} {plan:?} {size}");
-        match model::rebuild(&sheet, disk as u64, &plan, size, &before) {
-            Err(no) => assert_eq!((answer, after), (Err(no), before), "{}", context()),
-            Ok(expected) => {
-                assert_eq!((answer, &after), (Ok(()), &expected), "{}", context());
-                // The sheet that was read may be a damaged one: it says where things are.
-                let code = model::read_code(&sheet).expect("it was taken");
-                let unwanted = unwanted(&code, disk, &plan);
-                kept += (!unwanted.is_empty()) as u32;
-                symbols_agree(&before, &after, size as usize, &unwanted, "an unwanted symbol changed");
-                let mut other = before.clone();
-                ruin(&mut random, &code, disk, size as usize, &mut other);
-                assert_eq!(told(navorzim::rebuild(&sheet, disk as u64, &plan, size, &mut other)), Ok(()));
-                let rest: Vec<usize> = (0..code.symbols()).filter(|s| !unwanted.contains(s)).collect();
-                symbols_agree(&after, &other, size as usize, &rest, "the result depends on the lost strip");
-                if let (Some(whole), true) = (whole, sheet == code.sheet()) {
-                    restored += 1;
-                    symbols_agree(&after, &whole, size as usize, &rest, "a wanted symbol isn't back");
-                }
-            }
-        }
+        let disk = random.below(code.disks) as u8;
+        judged_rebuild(&mut random, (&code, &sheet), &[disk], &mut counts);
     }
+    let Rebuilt { restored, kept } = counts;
     println!("{restored} valid stripes restored, {kept} rebuilds with unwanted symbols");
     assert!(restored > 2_000 && kept > 1_000, "{restored} restored, {kept} with unwanted symbols");
 }
 
+#[test]
+fn rebuilding_for_a_list_of_disks() {
+    let mut random = Random::new(15);
+    let mut counts = Rebuilt::default();
+    for _ in 0..calls(60_000) {
+        let (code, sheet) = sheet(&mut random);
+        let disks = random::disks(&mut random, &code);
+        judged_rebuild(&mut random, (&code, &sheet), &disks, &mut counts);
+    }
+    let Rebuilt { restored, kept } = counts;
+    println!("{restored} valid stripes restored, {kept} rebuilds with unwanted symbols");
+    assert!(restored > 2_000 && kept > 500, "{restored} restored, {kept} with unwanted symbols");
+}
+
 /// The lost symbols that a plan doesn't want.
-fn unwanted(code: &model::Code, disk: usize, plan: &[u8]) -> Vec<usize> {
-    let plan = model::read_plan(code, disk, plan).expect("a whole sheet");
-    code.strip(disk).filter(|s| !plan.wanted.contains(s)).collect()
+fn unwanted(code: &model::Code, disks: &[u8], plan: &[u8]) -> Vec<usize> {
+    let plan = model::read_plan(code, disks, plan).expect("a whole sheet");
+    code.strips(disks).into_iter().filter(|s| !plan.wanted.contains(s)).collect()
 }
 
 fn symbols_agree(one: &[u8], other: &[u8], size: usize, symbols: &[usize], otherwise: &str) {
@@ -395,27 +559,28 @@ fn views() {
 #[test]
 fn sheets_at_every_byte() {
     let sheet = Family::Liberation { w: 3, data_disks: 2 }.sheet().expect("listed");
-    let judge = |sheet: &[u8], plan: &[u8]| {
-        assert_eq!(told(navorzim::check(sheet, 1, plan)), model::check(sheet, 1, plan), "{sheet:?} {plan:?}")
-    };
-    let lists: [Option<&[u8]>; 5] = [None, Some(&[3]), Some(&[5]), Some(&[3, 5]), Some(&[3, 4, 5])];
-    for list in lists {
+    let one = [Asked::Disk(1), Asked::Wanted(1, &[3]), Asked::Wanted(1, &[5]), Asked::Wanted(1, &[3, 5])];
+    let listed = [Asked::Wanted(1, &[3, 4, 5]), Asked::Disks(&[1], &[]), Asked::Disks(&[1], &[4])];
+    let several = [Asked::Disks(&[0, 2], &[]), Asked::Disks(&[1, 3], &[3, 5, 9]), Asked::Disks(&[0, 1], &[0])];
+    for asked in one.into_iter().chain(listed).chain(several) {
+        let disks = if let Asked::Disks(disks, _) = asked { disks } else { &[1] };
+        let judge = |sheet: &[u8], plan: &[u8]| {
+            let expected = model::check_disks(sheet, disks, plan);
+            assert_eq!(told(navorzim::check_disks(sheet, disks, plan)), expected, "{sheet:?} {disks:?} {plan:?}");
+            assert_eq!(told(navorzim::check(sheet, 1, plan)), model::check(sheet, 1, plan), "{sheet:?} {plan:?}");
+        };
         let mut plan = vec![0; navorzim::PLAN_BUFFER];
-        let Ok(Planned::Plan { length, .. }) = planned(&sheet, 1, list, &mut plan) else { panic!("no plan") };
+        let Ok(Planned::Plan { length, .. }) = planned(&sheet, asked, &mut plan) else { panic!("no plan") };
         plan.truncate(length);
         (0..=sheet.len()).for_each(|cut| judge(&sheet[..cut], &plan));
         (0..=plan.len()).for_each(|cut| judge(&sheet, &plan[..cut]));
         for value in 0..=255 {
-            for at in 0..14 {
-                judge(&with(&sheet, at, value), &plan);
-            }
-            for at in 0..plan.len() {
-                judge(&sheet, &with(&plan, at, value));
-            }
+            (0..14).for_each(|at| judge(&with(&sheet, at, value), &plan));
+            (0..plan.len()).for_each(|at| judge(&sheet, &with(&plan, at, value)));
         }
         // 1,024 and 1,025 steps.
         for steps in [1024usize, 1025] {
-            let mut long = plan[..head_length(list) - 2].to_vec();
+            let mut long = plan[..head_length(asked) - 2].to_vec();
             long.extend((steps as u16).to_le_bytes());
             long.extend([0, 3, 0].repeat(steps));
             judge(&sheet, &long);
@@ -435,24 +600,38 @@ fn with(sheet: &[u8], at: usize, value: u8) -> Vec<u8> {
 fn lists_at_every_position() {
     let sheet = Family::SingleParity { data_disks: 3, rows: 4 }.sheet().expect("listed");
     let code = model::read_code(&sheet).expect("good");
+    let judge = |asked: Asked| {
+        judged_planning(&sheet, asked, &[7; 3210]);
+        let (plan, disks) = (clears(&code, asked), if let Asked::Disks(disks, _) = asked { disks } else { &[1] });
+        let expected = model::check_disks(&sheet, disks, &plan);
+        assert_eq!(told(navorzim::check_disks(&sheet, disks, &plan)), expected, "{plan:?}");
+        assert_eq!(told(navorzim::check(&sheet, 1, &plan)), model::check(&sheet, 1, &plan), "{plan:?}");
+    };
     let lists: [&[u8]; 7] = [&[4], &[7], &[4, 7], &[5, 6], &[4, 5, 6], &[5, 6, 7], &[4, 5, 6, 7]];
     for list in lists {
         for (at, value) in (0..list.len()).flat_map(|at| (0..=255).map(move |value| (at, value))) {
-            let list = with(list, at, value);
-            judged_planning(&sheet, 1, Some(&list), &[7; 3114]);
-            let plan = clears(&code, 1, Some(&list));
-            assert_eq!(told(navorzim::check(&sheet, 1, &plan)), model::check(&sheet, 1, &plan), "{plan:?}");
+            judge(Asked::Wanted(1, &with(list, at, value)));
+            judge(Asked::Disks(&[1], &with(list, at, value)));
+            judge(Asked::Disks(&[0, 1], &with(list, at, value)));
+        }
+    }
+    let lists: [&[u8]; 6] = [&[1], &[3], &[0, 3], &[1, 2], &[0, 1, 3], &[0, 1, 2, 3]];
+    for list in lists {
+        for (at, value) in (0..list.len()).flat_map(|at| (0..=255).map(move |value| (at, value))) {
+            judge(Asked::Disks(&with(list, at, value), &[]));
+            judge(Asked::Disks(&with(list, at, value), &[12]));
         }
     }
     // What is only read may overlap: lists out of the sheet itself.
     for (start, end) in (0..=sheet.len()).flat_map(|start| (start..=sheet.len()).map(move |end| (start, end))) {
-        judged_planning(&sheet, 1, Some(&sheet[start..end]), &[7; 3114]);
+        judged_planning(&sheet, Asked::Wanted(1, &sheet[start..end]), &[7; 3114]);
+        judged_planning(&sheet, Asked::Disks(&sheet[start..end], &sheet[..end - start]), &[7; 3210]);
     }
-    for length in 0..600 {
-        for start in [0, 4, 255] {
-            let list: Vec<u8> = (0..length).map(|i| (start + i) as u8).collect();
-            judged_planning(&sheet, 1, Some(&list), &[7; 3114]);
-        }
+    for (length, start) in (0..600).flat_map(|length| [0, 4, 255].map(|start| (length, start))) {
+        let list: Vec<u8> = (0..length).map(|i| (start + i) as u8).collect();
+        judged_planning(&sheet, Asked::Wanted(1, &list), &[7; 3114]);
+        judged_planning(&sheet, Asked::Disks(&[1, 2], &list), &[7; 3210]);
+        judged_planning(&sheet, Asked::Disks(&list, &[]), &[7; 3210]);
     }
 }
 
@@ -519,17 +698,211 @@ fn lists_and_their_steps() {
     ]);
 }
 
+/// Judges plans of edition 3 for some disks of a single parity array of four disks of four rows; n, r and K fit.
+fn judged_disk_lists(disks: &[u8], cases: &[Case]) {
+    let sheet = Family::SingleParity { data_disks: 3, rows: 4 }.sheet().expect("listed");
+    for (parts, expected) in cases {
+        let plan = [&[5, 3, 4, 4, 12], &parts.concat()[..]].concat();
+        assert_eq!(model::check_disks(&sheet, disks, &plan), *expected, "the model: {disks:?} {plan:?}");
+        assert_eq!(told(navorzim::check_disks(&sheet, disks, &plan)), *expected, "{disks:?} {plan:?}");
+        if let &[disk] = disks {
+            assert_eq!(told(navorzim::check(&sheet, disk.into(), &plan)), *expected, "{disk} {plan:?}");
+        }
+    }
+}
+
+/// Edition 3's order up to the steps, each answer written out. The parts are the read count, the disks and the wanted symbols after their
+/// counts, and the steps.
+#[test]
+fn disk_lists_in_the_order_of_the_rules() {
+    judged_disk_lists(
+        &[1],
+        &[
+            (&[&[3], &[1, 1], &[1, 6], &ROW_2], Ok(3)),
+            (&[&[3], &[1, 1], &[1, 6], &ROW_2[..0]], Err((11, 0))),
+            (&[&[3], &[1, 1], &[1, 6], &ROW_2[..1]], Err((11, 0))),
+            (&[&[3], &[1, 1], &[1, 6], &ROW_2[..10]], Err((11, 0))),
+            (&[&[3], &[1, 1], &[1, 6], &ROW_2, &[0]], Err((12, 0))),
+            // Nine bytes, whatever they say, and counts that run past the end.
+            (&[&[3], &[0, 0, 0]], Err((11, 0))),
+            (&[&[3], &[0], &[0], &[0, 0]], Err((24, 0))),
+            (&[&[3], &[255], &[1, 6], &ROW_2], Err((11, 0))),
+            (&[&[3], &[1, 1], &[255], &ROW_2], Err((11, 0))),
+            (&[&[3], &[255], &[1; 255], &[255], &[6; 255], &[0]], Err((11, 0))),
+            (&[&[3], &[255], &[1; 255], &[255], &[6; 255], &[1, 4]], Err((13, 0))),
+            (&[&[3], &[255], &[1; 255], &[255], &[6; 255], &[0, 4]], Err((24, 0))),
+            // The step limit goes before the disks: 7 over the whole list, then 24, then 16, then 23, then the length.
+            (&[&[3], &[2, 9, 9], &[1, 9], &[1, 4]], Err((13, 0))),
+            (&[&[3], &[3, 0, 0, 4], &[1, 9], &[0, 4]], Err((7, 0))),
+            (&[&[3], &[5, 0, 1, 2, 3, 4], &[0], &[0, 4]], Err((7, 0))),
+            (&[&[3], &[2, 255, 1], &[0], &[0, 4]], Err((7, 0))),
+            (&[&[3], &[5, 0, 1, 2, 3, 3], &[0], &[0, 4]], Err((24, 0))),
+            (&[&[3], &[4, 0, 1, 2, 2], &[0], &[0, 4]], Err((24, 3))),
+            (&[&[3], &[2, 1, 1], &[1, 9], &[0, 4]], Err((24, 1))),
+            (&[&[3], &[2, 1, 0], &[1, 9], &[0, 4]], Err((24, 1))),
+            (&[&[3], &[0], &[1, 9], &[0, 4]], Err((24, 0))),
+            (&[&[3], &[2, 0, 1], &[1, 3, 3], &[0, 4]], Err((16, 0))),
+            (&[&[3], &[1, 2], &[1, 3], &[0, 4]], Err((16, 0))),
+            (&[&[3], &[1, 1], &[1, 9], &[0, 4]], Err((23, 0))),
+            (&[&[3], &[1, 1], &[2, 6, 6], &ROW_2[..10]], Err((23, 1))),
+            (&[&[3], &[1, 1], &[5, 4, 5, 6, 7, 7], &ROW_2], Err((23, 0))),
+        ],
+    );
+}
+
+/// What is asked about, and what the head says besides the lists.
+#[test]
+fn sets_that_are_asked_about() {
+    let sheet = Family::SingleParity { data_disks: 3, rows: 4 }.sheet().expect("listed");
+    let whole = [&[5, 3, 4, 4, 12, 3, 1, 1, 1, 6], &ROW_2[..]].concat();
+    let judge = |disks: &[u8], plan: &[u8], expected: Result<u64, No>| {
+        assert_eq!(model::check_disks(&sheet, disks, plan), expected, "the model: {disks:?} {plan:?}");
+        assert_eq!(told(navorzim::check_disks(&sheet, disks, plan)), expected, "{disks:?} {plan:?}");
+        let mut stripe = [7; 16];
+        let rebuilt = told(navorzim::rebuild_disks(&sheet, disks, plan, 1, &mut stripe));
+        assert_eq!(rebuilt, expected.map(|_| ()), "{disks:?} {plan:?}");
+    };
+    for (disks, expected) in [
+        (&[1][..], Ok(3)),
+        (&[], Err((24, 0))),
+        (&[4], Err((7, 0))),
+        (&[1, 1], Err((24, 1))),
+        (&[3, 1], Err((24, 1))),
+        (&[1, 0, 4], Err((7, 0))),
+        (&[0, 1, 2, 3, 3], Err((24, 0))),
+        (&[0, 1, 2, 3, 4], Err((7, 0))),
+        (&[0], Err((16, 0))),
+        (&[0, 1], Err((16, 0))),
+        (&[0, 1, 2, 3], Err((16, 0))),
+        (&[1; 255], Err((24, 0))),
+        (&[1; 257], Err((24, 0))),
+    ] {
+        judge(disks, &whole, expected);
+        // Editions 1 and 2 are for the one disk that they name.
+        let Ok(Planning::Plan { plan, .. }) = navorzim::plan_wanted(&sheet, 1, &[6]) else { panic!("no plan") };
+        judge(disks, &plan, expected);
+        let Ok(Planning::Plan { plan, reads }) = navorzim::plan(&sheet, 1) else { panic!("no plan") };
+        judge(disks, &plan, expected.map(|_| reads));
+    }
+    // First count and edition, and then n, r and K, go before the lists and before 16.
+    for (at, value, expected) in [
+        (0, 6, (14, 0)),
+        (0, 4, (13, 0)),
+        (1, 1, (14, 0)),
+        (1, 2, (14, 0)),
+        (1, 4, (14, 0)),
+        (2, 5, (15, 0)),
+        (4, 13, (15, 0)),
+        (5, 4, (22, 3)),
+        (6, 0, (24, 0)),
+    ] {
+        judge(&[1], &with(&whole, at, value), Err(expected));
+    }
+}
+
+/// What makes a list of wanted symbols of several disks bad, and what the steps are held to: places are symbol numbers.
+#[test]
+fn disk_lists_and_their_steps() {
+    // Disks 1 and 3, symbols 4 to 7 and 12 to 15: a row of both can't be rebuilt, but disk 1 is zero where data are.
+    judged_disk_lists(
+        &[1, 3],
+        &[
+            (&[&[0], &[2, 1, 3], &[0], &[0, 0]], Err((20, 4))),
+            (&[&[0], &[2, 1, 3], &[1, 13], &[0, 0]], Err((20, 13))),
+            (&[&[0], &[2, 1, 3], &[2, 5, 12], &[1, 0, 0, 5, 0]], Err((20, 12))),
+            (&[&[0], &[2, 1, 3], &[1, 13], &[1, 0, 0, 13, 0]], Err((21, 13 * 64 + 1))),
+            (&[&[1], &[2, 1, 3], &[1, 13], &[1, 0, 1, 13, 1]], Err((21, 13 * 64 + 5))),
+            (&[&[0], &[2, 1, 3], &[2, 7, 8], &[0, 0]], Err((23, 1))),
+            (&[&[0], &[2, 1, 3], &[2, 12, 7], &[0, 0]], Err((23, 1))),
+            (&[&[0], &[2, 1, 3], &[1, 16], &[0, 0]], Err((23, 0))),
+            (&[&[0], &[2, 1, 3], &[9, 4, 5, 6, 7, 12, 13, 14, 15, 15], &[0, 0]], Err((23, 0))),
+            (&[&[0], &[2, 1, 3], &[8, 4, 5, 6, 7, 12, 13, 14, 15], &[0, 0]], Err((20, 4))),
+            (&[&[0], &[2, 1, 3], &[0], &[1, 0, 1, 4, 12]], Err((19, 0))),
+            (&[&[0], &[2, 1, 3], &[0], &[1, 0, 1, 0, 4]], Err((18, 0))),
+            (&[&[0], &[2, 1, 3], &[0], &[1, 0, 1, 4, 4]], Err((25, 0))),
+            (&[&[0], &[2, 1, 3], &[0], &[1, 0, 1, 4, 16]], Err((17, 0))),
+            (&[&[0], &[2, 1, 3], &[1, 13], &[1, 0, 1, 12, 0]], Err((18, 0))),
+            (&[&[0], &[2, 1, 3], &[1, 13], &[1, 0, 1, 13, 12]], Err((19, 0))),
+        ],
+    );
+    // One disk in edition 3: still symbol numbers.
+    judged_disk_lists(
+        &[1],
+        &[
+            (&[&[0], &[1, 1], &[0], &[0, 0]], Err((20, 4))),
+            (&[&[0], &[1, 1], &[1, 7], &[0, 0]], Err((20, 7))),
+            (&[&[1], &[1, 1], &[1, 6], &[1, 0, 1, 6, 2]], Err((21, 6 * 64 + 2))),
+            (&[&[4], &[1, 1], &[1, 6], &ROW_2], Err((22, 3))),
+        ],
+    );
+}
+
+/// All disks lost: what is zero can be made again, by clears alone, and nothing else can.
+#[test]
+fn all_disks_lost() {
+    let zero_but_one = |one: usize| {
+        let rows = (0..64).map(|s| vec![s == one]).collect();
+        model::Code { disks: 64, height: 1, data: 1, rows }.sheet()
+    };
+    let all: Vec<u8> = (0..64).collect();
+    let (zero, one) = (zero_but_one(64), zero_but_one(63));
+    assert_eq!(judged_planning(&zero, Asked::Disks(&all, &[]), &[1; 3210]), Some(Answer::Plan));
+    assert_eq!(judged_planning(&zero, Asked::Disks(&all, &all), &[1; 3210]), Some(Answer::Plan));
+    assert_eq!(judged_planning(&one, Asked::Disks(&all, &[]), &[1; 3210]), Some(Answer::Pattern));
+    assert_eq!(judged_planning(&one, Asked::Disks(&all, &all[..63]), &[1; 3210]), Some(Answer::Plan));
+    assert_eq!(judged_planning(&one, Asked::Disks(&all, &[63]), &[1; 3210]), Some(Answer::Pattern));
+    // The longest sheet of all: every disk, every symbol, and 1,024 steps.
+    let mut plan = [&[5, 3, 64, 1, 1, 0, 64][..], &all, &[64], &all, &[0, 4]].concat();
+    plan.extend((0..16).flat_map(|_| all.iter().flat_map(|&s| [0, s, 0])));
+    assert_eq!((plan.len(), told(navorzim::check_disks(&zero, &all, &plan))), (navorzim::PLAN_BUFFER, Ok(0)));
+    assert_eq!(told(navorzim::check_disks(&one, &all, &plan)), Err((21, 63 * 64)));
+    let mut stripe = [9; 64];
+    assert_eq!(told(navorzim::rebuild_disks(&zero, &all, &plan, 1, &mut stripe)), Ok(()));
+    assert_eq!(stripe, [0; 64]);
+    plan.push(0);
+    assert_eq!(told(navorzim::check_disks(&zero, &all, &plan)), Err((12, 0)));
+}
+
+/// Two disks of every code that is made to bear it have a plan, and rebuilding by it gives any stripe back.
+#[test]
+fn any_two_disks() {
+    let mut random = Random::new(22);
+    let liberation = [3, 5, 7].into_iter().flat_map(|w| (2..=w).map(move |k| ("liberation", w, k)));
+    let diagonal = ["row-diagonal", "evenodd"].into_iter().flat_map(|name| [3, 5, 7].map(|p| (name, p, 0)));
+    for (name, a, b) in liberation.chain(diagonal) {
+        let sheet = model::family(name, a, b).expect("listed");
+        let code = model::read_code(&sheet).expect("good");
+        let whole = model::scatter(&code, 3, &random.bytes(code.data * 3));
+        for (one, two) in (0..code.disks as u8).flat_map(|two| (0..two).map(move |one| (one, two))) {
+            let Ok(Planning::Plan { plan, reads }) = navorzim::plan_disks(&sheet, &[one, two], &[]) else {
+                panic!("{name} {a} {b} has no plan for disks {one} and {two}")
+            };
+            assert_eq!(model::check_disks(&sheet, &[one, two], &plan), Ok(reads));
+            let mut stripe = whole.clone();
+            ruin(&mut random, &code, &[one, two], 3, &mut stripe);
+            assert_eq!(told(navorzim::rebuild_disks(&sheet, &[one, two], &plan, 3, &mut stripe)), Ok(()));
+            assert!(stripe == whole, "{name} {a} {b}, disks {one} and {two}");
+        }
+    }
+}
+
 /// A disk that can't be rebuilt, with a row that can: three data disks of two rows and a parity disk whose row 1 leaves disk 1 out.
 #[test]
 fn a_row_of_a_disk_beyond_help() {
     let code = [[0u8].as_slice(), &[1], &[2], &[3], &[4], &[5], &[0, 2, 4], &[1, 5]];
     let rows = code.iter().map(|sum| (0..6).map(|t| sum.contains(&t)).collect()).collect();
     let sheet = model::Code { disks: 4, height: 2, data: 6, rows }.sheet();
-    let before = [9; 3114];
-    assert!(judged_planning(&sheet, 1, None, &before) == Some(Answer::Pattern));
-    assert!(judged_planning(&sheet, 1, Some(&[2, 3]), &before) == Some(Answer::Pattern));
-    assert!(judged_planning(&sheet, 1, Some(&[3]), &before) == Some(Answer::Pattern));
-    assert!(judged_planning(&sheet, 1, Some(&[2]), &before) == Some(Answer::Plan));
+    let before = [9; 3210];
+    let judge = |asked: Asked| judged_planning(&sheet, asked, &before);
+    assert_eq!(judge(Asked::Disk(1)), Some(Answer::Pattern));
+    assert_eq!(judge(Asked::Disks(&[1], &[])), Some(Answer::Pattern));
+    for (list, answer) in [(&[2, 3][..], Answer::Pattern), (&[3], Answer::Pattern), (&[2], Answer::Plan)] {
+        assert_eq!(judge(Asked::Wanted(1, list)), Some(answer));
+        assert_eq!(judge(Asked::Disks(&[1], list)), Some(answer));
+    }
+    // With the parity disk gone too, only disk 0's row 1 has an equation left, and none of disk 1.
+    assert_eq!(judge(Asked::Disks(&[1, 3], &[2])), Some(Answer::Pattern));
+    assert_eq!(judge(Asked::Disks(&[0, 1], &[1])), Some(Answer::Plan));
     assert_eq!(navorzim::plan_wanted(&sheet, 1, &[3]), Ok(Planning::Pattern(8)));
 
     let Ok(Planning::Plan { plan, reads: 3 }) = navorzim::plan_wanted(&sheet, 1, &[2]) else { panic!("no plan") };
@@ -542,13 +915,13 @@ fn a_row_of_a_disk_beyond_help() {
     }
 }
 
-/// The longest sheet: 32 wanted symbols, each the sum of 32 survivors.
+/// The longest sheet for one disk: 32 wanted symbols, each the sum of 32 survivors.
 #[test]
 fn the_longest_plan() {
     let rows = (0..64).map(|s| (0..32).map(|t| s < 32 || t + 32 == s).collect()).collect();
     let sheet = model::Code { disks: 2, height: 32, data: 32, rows }.sheet();
     let list: Vec<u8> = (0..32).collect();
-    let mut buffer = vec![1; navorzim::PLAN_BUFFER];
+    let mut buffer = vec![1; 3114];
     let answer = navorzim::plan_wanted_into(&sheet, 0, &list, &mut buffer);
     assert_eq!(answer, Ok(Planned::Plan { length: 3114, reads: 32 }));
     assert_eq!(navorzim::check(&sheet, 0, &buffer), Ok(32));
@@ -569,7 +942,13 @@ fn ways_to_sum() -> Vec<Vec<[u8; 3]>> {
     let clears = (0..21).flat_map(|m| [[0, m, 0]].into_iter().chain(adds(m, 0)));
     let zeros = (0..21).flat_map(|m| [[1, m, 41]].into_iter().chain(adds(m, 0)));
     let one_by_one = (0..21).map(|m| [0, m, 0]).chain((0..20).flat_map(|t| (t + 1..21).map(move |m| [2, m, 21 + t])));
-    let from_each_other = (0..21).flat_map(|m| if m == 0 { vec![[0, 0, 0]] } else { vec![[1, m, m - 1], [2, m, 20 + m], [2, m, 41], [2, m, 0]] });
+    let from_each_other = (0..21).flat_map(|m| {
+        if m == 0 {
+            vec![[0, 0, 0]]
+        } else {
+            vec![[1, m, m - 1], [2, m, 20 + m], [2, m, 41], [2, m, 0]]
+        }
+    });
     vec![copies.collect(), clears.collect(), zeros.collect(), one_by_one.collect(), from_each_other.collect()]
 }
 
@@ -581,7 +960,8 @@ fn sums_of_every_length() {
     let code = model::Code { disks: 2, height: 21, data: 20, rows };
     let (sheet, mut random) = (code.sheet(), Random::new(9));
     let plans = ways_to_sum().into_iter().map(|steps| {
-        let read: std::collections::BTreeSet<u8> = steps.iter().filter(|step| step[0] > 0 && step[2] >= 21).map(|step| step[2]).collect();
+        let read: std::collections::BTreeSet<u8> =
+            steps.iter().filter(|step| step[0] > 0 && step[2] >= 21).map(|step| step[2]).collect();
         let mut plan = vec![6, 1, 2, 21, 20, 0, read.len() as u8];
         plan.extend((steps.len() as u16).to_le_bytes());
         plan.extend(steps.concat());
@@ -616,10 +996,15 @@ fn limits() {
             assert_eq!(told(navorzim::encode(&sheet, size, &data, &mut stripe)), Ok(()));
             assert!(stripe == model::scatter(&code, size as usize, &data), "n {disks}, r {height}, L {size}");
         }
-        for disk in 0..disks {
-            assert!(judged_planning(&sheet, disk as u64, None, &[0; 3081]).is_some());
-            let list = random::list(&mut random, &code, disk);
-            assert!(judged_planning(&sheet, disk as u64, Some(&list), &[0; 3114]).is_some());
+        for disk in 0..disks as u8 {
+            assert!(judged_planning(&sheet, Asked::Disk(disk.into()), &[0; 3081]).is_some());
+            let list = random::list(&mut random, &code, &[disk]);
+            assert!(judged_planning(&sheet, Asked::Wanted(disk.into(), &list), &[0; 3114]).is_some());
+            let lost: Vec<u8> = (0..=disk).collect();
+            let list = random::list(&mut random, &code, &lost);
+            assert!(judged_planning(&sheet, Asked::Disks(&lost, &[]), &[0; 3210]).is_some());
+            assert!(judged_planning(&sheet, Asked::Disks(&lost, &list), &[0; 3210]).is_some());
+            assert!(judged_planning(&sheet, Asked::Disks(&lost, &list), &[0; 3209]).is_none());
         }
     }
 }

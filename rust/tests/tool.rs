@@ -96,7 +96,10 @@ fn what_is_off_is_shown() {
     folder.put("plan", &p2_with(20, 6));
     let ran = folder.run("show code --disk 0 --plan plan --svg drawing");
     assert_eq!(ran.status, 1);
-    assert_eq!(ran.err, "navorzim: refused 21 at 64: row 1 of the failed disk ends wrong: data symbol 0 is off (plan)\n");
+    assert_eq!(
+        ran.err,
+        "navorzim: refused 21 at 64: row 1 of the failed disk ends wrong: data symbol 0 is off (plan)\n"
+    );
     for piece in [
         "The plan is refused: row 1 ends wrong.",
         "Symbol 1 is d1, and the steps make d0 + d2 + d3 of it: d0 is off, and d1 d2 d3.",
@@ -218,7 +221,7 @@ fn a_disk_without_a_plan_has_a_pattern() {
     let pattern = ran.out.split("The pattern is ").nth(1).expect("a pattern");
     let pattern: u64 = pattern.split(',').next().unwrap().parse().expect("number");
     let code = model::read_code(&folder.get("sums")).expect("good");
-    assert!(model::good_pattern(&code, 0, &[0, 1], pattern, 3), "{pattern}");
+    assert!(model::good_pattern(&code, &[0], &[0, 1], pattern, 3), "{pattern}");
 }
 
 /// Three data disks of two rows and a parity disk whose row 1 leaves disk 1 out.
@@ -287,7 +290,7 @@ fn lists_that_do_not_fit_the_disk_are_refused() {
         folder.refused(&format!("show code --disk {disk} --want {want} --svg out"), 23, place);
     }
     let sentence = folder.refused("plan code 0 --want 3,7 -o out", 23, 1);
-    let said = "entry 1 of the list of wanted symbols doesn't rise or isn't on the failed disk: it is symbol 7";
+    let said = "entry 1 of the list of wanted symbols doesn't rise or isn't on a failed disk: it is symbol 7";
     assert!(sentence.starts_with(said), "{sentence}");
     // The disk goes before the list, and the code sheet before both.
     folder.refused("plan code 7 --want 9 -o out", 7, 0);
@@ -324,7 +327,8 @@ fn bad_lists_in_plans_are_explained() {
     }
     folder.put("plan", &p2_with(1, 3));
     let sentence = folder.refused("check code 0 plan", 14, 0);
-    assert_eq!(sentence, "the plan sheet's edition isn't 1 or 2: it is 3 (plan)");
+    let said = "the plan sheet's edition isn't 1 or 2 with first byte 6, or 3 with first byte 5: it is 3 with first byte 6 (plan)";
+    assert_eq!(sentence, said);
 }
 
 #[test]
@@ -353,6 +357,253 @@ fn a_row_of_a_disk_beyond_help_has_a_plan() {
     assert_eq!(folder.get("stripes"), [1, 2, 3, 0xBB, 5, 6, 1 ^ 3 ^ 5, 2 ^ 6]);
 }
 
+/// The square code's plan for disks 0 and 2, all of them: d0 and d1 from disks 1 and 3, then symbols 4 and 5 from them and disk 1.
+const DISKS_0_AND_2: [u8; 36] = [
+    5, 3, 4, 2, 4, 4, 2, 0, 2, 0, 8, 0, // n, r, K, 4 reads, two disks, no list, 8 steps
+    1, 0, 6, 2, 0, 3, 1, 1, 7, 2, 1, 2, // 0 = 6 + 3, 1 = 7 + 2
+    1, 4, 0, 2, 4, 2, 1, 5, 1, 2, 5, 3, // 4 = 0 + 2, 5 = 1 + 3
+];
+
+/// The plan above with one byte changed.
+fn disks_0_and_2_with(at: usize, byte: u8) -> Vec<u8> {
+    let mut plan = DISKS_0_AND_2.to_vec();
+    plan[at] = byte;
+    plan
+}
+
+#[test]
+fn several_disks_are_planned_checked_and_rebuilt() {
+    let folder = Folder::new();
+    let (_, stripes) = liberation_stripes(&folder, 4);
+    for (asked, disks, named) in [
+        ("0,3", &[0u8, 3][..], "disks 0 and 3"),
+        ("6,5", &[5, 6], "disks 5 and 6"),
+        ("2-3", &[2, 3], "disks 2 and 3"),
+        ("4,1,4", &[1, 4], "disks 1 and 4"),
+    ] {
+        let said = folder.done(&format!("plan code {asked} -o plan"));
+        let (sheet, plan) = (folder.get("code"), folder.get("plan"));
+        assert_eq!((&plan[..2], &plan[6..9], plan[9]), (&[5, 3][..], &[2, disks[0], disks[1]][..], 0), "{asked}");
+        let reads = model::check_disks(&sheet, disks, &plan).expect("accepted");
+        let steps = (plan.len() - 12) / 3;
+        assert_eq!(said, format!("wrote plan: {} bytes, {steps} steps, reads {reads} symbols\n", plan.len()));
+        assert_eq!(folder.done(&format!("check code {asked} plan")), format!("accepted, reads {reads} symbols\n"));
+        let lost = disks.iter().fold(stripes.clone(), |stripes, &disk| ruined(&stripes, disk.into()));
+        folder.put("stripes", &lost);
+        let said = folder.done(&format!("rebuild code {asked} plan --symbol 64 stripes --in-place"));
+        assert!(said.starts_with(&format!("rebuilt {named} in 4 stripes: stripes\n")), "{said}");
+        assert!(folder.get("stripes") == stripes, "{asked}");
+    }
+    let sentence = folder.refused("plan code 3,0,7 -o none", 7, 0);
+    assert!(sentence.contains("asked for 7, it has 0 to 6"), "{sentence}");
+    folder.refused("plan code 0,18446744073709551615 -o none", 7, 0);
+    folder.refused("check code 0,256 plan", 7, 0);
+    folder.refused("rebuild code 1,7 plan --symbol 64 stripes --in-place", 7, 0);
+    folder.refused("show code --disk 0-6,255", 7, 0);
+}
+
+#[test]
+fn one_disk_keeps_its_editions() {
+    let folder = Folder::new();
+    liberation_stripes(&folder, 1);
+    for (line, head) in [
+        ("plan code 3 -o plan", &[6u8, 1][..]),
+        ("plan code 3,3 -o plan", &[6, 1]),
+        ("plan code 3-3 -o plan", &[6, 1]),
+        ("plan code 3 --want 0,2 -o plan", &[6, 2]),
+        ("plan code 3,3 --want 0,2 -o plan", &[6, 2]),
+        ("plan code 0,3 -o plan", &[5, 3]),
+        ("plan code 0,3 --want 0,2 -o plan", &[5, 3]),
+    ] {
+        folder.done(line);
+        assert_eq!(&folder.get("plan")[..2], head, "{line}");
+    }
+}
+
+#[test]
+fn some_rows_of_several_disks_are_planned_checked_and_rebuilt() {
+    let folder = Folder::new();
+    let (_, stripes) = liberation_stripes(&folder, 3);
+    let lost = ruined(&ruined(&stripes, 0), 3);
+    for (want, list, named) in [
+        ("2", &[2u8, 17][..], "disk 0 row 2 and disk 3 row 2"),
+        ("s17", &[17], "disk 3 row 2"),
+        ("s3,s0", &[0, 3], "disk 0 rows 0 3"),
+        ("0,s16,s17", &[0, 15, 16, 17], "disk 0 row 0 and disk 3 rows 0 1 2"),
+        ("0-4", &[0, 1, 2, 3, 4, 15, 16, 17, 18, 19], "disk 0 rows 0 1 2 3 4 and disk 3 rows 0 1 2 3 4"),
+    ] {
+        let said = folder.done(&format!("plan code 0,3 --want {want} -o plan"));
+        let (sheet, plan) = (folder.get("code"), folder.get("plan"));
+        assert_eq!((plan[9], &plan[10..10 + list.len()]), (list.len() as u8, list), "{want}");
+        let reads = model::check_disks(&sheet, &[0, 3], &plan).expect("accepted");
+        assert!(said.ends_with(&format!(", reads {reads} symbols, brings back {named}\n")), "{said}");
+        let said = folder.done("check code 0,3 plan");
+        assert_eq!(said, format!("accepted, reads {reads} symbols, brings back {named}\n"));
+        folder.put("stripes", &lost);
+        folder.done("rebuild code 3,0 plan --symbol 64 stripes --in-place");
+        let mut expected = lost.clone();
+        for (place, byte) in expected.iter_mut().enumerate() {
+            if list.contains(&((place / 64 % 35) as u8)) {
+                *byte = stripes[place];
+            }
+        }
+        assert!(folder.get("stripes") == expected, "{want}");
+    }
+    for (want, place, detail) in [
+        ("s5", 0, "it is symbol 5, disks 0 and 3 have 0 to 4 and 15 to 19"),
+        ("4,s20", 2, "it is symbol 20, disks 0 and 3 have"),
+        ("0-5", 0, "it has 12 symbols, disks 0 and 3 have 10 symbols"),
+    ] {
+        let sentence = folder.refused(&format!("plan code 0,3 --want {want} -o out"), 23, place);
+        assert!(sentence.contains(detail) && sentence.ends_with("(code)"), "{want}: {sentence}");
+    }
+}
+
+#[test]
+fn a_plan_for_several_disks_is_for_these_disks() {
+    let folder = Folder::square();
+    folder.put("both", &DISKS_0_AND_2);
+    assert_eq!(folder.done("check code 2,0 both"), "accepted, reads 4 symbols\n");
+    folder.put("stripes", &[0xFF, 0xFF, 0x44, 0x88, 0xFF, 0xFF, 0x99, 0x66]);
+    folder.done("rebuild code 0,2 both --symbol 1 stripes --in-place");
+    assert_eq!(folder.get("stripes"), P1);
+    for (disks, named) in [("0", "disk 0"), ("0,1", "disks 0 and 1"), ("0-2", "disks 0, 1 and 2")] {
+        let sentence = folder.refused(&format!("check code {disks} both"), 16, 0);
+        assert!(sentence.ends_with(&format!("the plan is for disks 0 and 2, not for {named} (both)")), "{sentence}");
+    }
+    // A list of one disk in edition 3: the place is the symbol.
+    folder.put("one", &[5, 3, 4, 2, 4, 0, 1, 3, 0, 0, 0]);
+    assert!(folder.refused("check code 3 one", 20, 6).starts_with("symbol 6 is never filled"));
+}
+
+#[test]
+fn plans_for_several_disks_are_explained() {
+    let folder = Folder::square();
+    for (plan, number, place, detail) in [
+        (disks_0_and_2_with(5, 5), 22, 4, "it reads 4 symbols: the plan says 5"),
+        (disks_0_and_2_with(6, 0), 24, 0, "it has 0 disks, the array has 4"),
+        (
+            disks_0_and_2_with(8, 0),
+            24,
+            1,
+            "entry 1 of the list of failed disks doesn't rise: it is disk 0, after disk 0",
+        ),
+        (disks_0_and_2_with(8, 4), 7, 0, "the plan lists 4, the array has 0 to 3"),
+        (disks_0_and_2_with(8, 3), 16, 0, "the plan is for disks 0 and 3, not for disks 0 and 2"),
+        (P2.to_vec(), 16, 0, "the plan is for disk 0, not for disks 0 and 2"),
+        (disks_0_and_2_with(1, 2), 14, 0, "it is 2 with first byte 5"),
+        (disks_0_and_2_with(0, 6), 14, 0, "it is 3 with first byte 6"),
+        (disks_0_and_2_with(11, 5), 13, 0, "at most 1,024 steps"),
+        (DISKS_0_AND_2[..12].to_vec(), 11, 0, "it has 12 bytes"),
+        (
+            disks_0_and_2_with(19, 2),
+            18,
+            2,
+            "the target of step 2 isn't a wanted symbol: it has kind 1, target 2, source 7",
+        ),
+        (disks_0_and_2_with(26, 5), 19, 4, "it has kind 1, target 4, source 5"),
+    ] {
+        folder.put("both", &plan);
+        assert_eq!(model::check_disks(&square_sheet(), &[0, 2], &plan), Err((number, place)), "{plan:?}");
+        for line in [
+            "check code 0,2 both",
+            "rebuild code 0,2 both --symbol 1 stripes --in-place",
+            "show code --disk 0,2 --plan both",
+        ] {
+            let sentence = folder.refused(line, number, place);
+            assert!(sentence.contains(detail) && sentence.ends_with("(both)"), "{sentence}");
+        }
+    }
+}
+
+#[test]
+fn several_lost_disks_are_drawn() {
+    let folder = Folder::square();
+    folder.put("both", &DISKS_0_AND_2);
+    let plan = folder.done("show code --disk 0,2 --plan both --svg out");
+    assert!(
+        plan.contains("Disks 0 and 2 are lost. The plan, checked: 8 steps, reads 4 of 4 surviving\nsymbols."),
+        "{plan}"
+    );
+    let heads = plan.lines().find(|line| line.contains("disk 1")).expect("heads");
+    assert!(heads.contains("disk 0 ×") && heads.contains("disk 2 ×") && heads.matches('×').count() == 2, "{heads}");
+    assert!(plan.contains("│× 0 d0    │● 2 d2    │× 4 d0+d2 │● 6 d0+d3 │"), "{plan}");
+    assert!(plan.contains("  × lost: 4\n  ● survives, read: 4\n"), "{plan}");
+    let picture = String::from_utf8(folder.get("out")).expect("text");
+    for piece in [">0 = 3 + 6<", ">4 = 2 + 3 + 6<", ">5 = 2 + 3 + 7<", "<desc id=\"desc\">Disks 0 and 2 are lost."] {
+        assert!(picture.contains(piece), "{piece}: {picture}");
+    }
+    assert_eq!(picture.matches("fill=\"#a3211d\" font-weight").count(), 2, "{picture}");
+    texts_fit(&picture, "two disks");
+    balanced(&picture);
+
+    // Some symbols of them, and one that ends wrong.
+    let planned = folder.done("show code --disk 0,2 --want s1,s4");
+    assert!(planned.contains("The plan for disk 0 row 1 and disk 2 row 0, checked"), "{planned}");
+    assert!(planned.contains("  × lost, wanted: 2\n  - lost, not wanted: 2\n"), "{planned}");
+    folder.put("both", &disks_0_and_2_with(35, 2));
+    let ran = folder.fails("show code --disk 0,2 --plan both", 1);
+    assert_eq!(ran.err, "navorzim: refused 21 at 322: symbol 5 ends wrong: data symbol 2 is off (both)\n");
+    assert!(ran.out.contains("Disks 0 and 2 are lost. The plan is refused: disk 2 row 1 ends wrong."), "{}", ran.out);
+    assert!(
+        ran.out.contains("Symbol 5 is d1 + d3, and the steps make d1 + d2 of it: d2 is off, and d3."),
+        "{}",
+        ran.out
+    );
+}
+
+#[test]
+fn disks_that_cannot_all_be_rebuilt_have_a_pattern() {
+    let folder = Folder::square();
+    let ran = folder.fails("plan code 0,1 -o out", 1);
+    assert_eq!(ran.err, "navorzim: disks 0 and 1 can't all be rebuilt by any plan (code)\n");
+    assert!(ran.out.starts_with("Disks 0 and 1 are lost, and no plan can bring all of them back.\n"), "{}", ran.out);
+    assert!(
+        ran.out.contains("agree on all surviving disks, not on disk 0 rows 0 1 and disk 1 rows 0 1.\n"),
+        "{}",
+        ran.out
+    );
+    let ran = folder.fails("show code --disk 0,1 --want s1", 1);
+    assert_eq!(ran.err, "navorzim: disk 0 row 1 can't be rebuilt by any plan (code)\n");
+    assert!(ran.out.contains("no plan can bring disk 0 row 1 back."), "{}", ran.out);
+    // Where some of it can be brought back, the symbols are named so that --want takes them.
+    folder.put("thin", &thin_sheet());
+    let ran = folder.fails("plan thin 0,1 -o out", 1);
+    assert!(ran.out.ends_with("\nA plan can bring disk 0 row 1 back: --want s1.\n"), "{}", ran.out);
+    folder.done("plan thin 0,1 --want s1 -o out");
+    // Nothing survives.
+    let ran = folder.fails("plan code 0-3 -o none", 1);
+    assert!(ran.out.contains("Disks 0, 1, 2 and 3 are lost, and no plan can bring all of them back."), "{}", ran.out);
+    assert!(
+        ran.out.contains("Stripes that differ by it differ, with no surviving disk to tell by, on disk "),
+        "{}",
+        ran.out
+    );
+    folder.put("zero", &sheet(2, 1, 1, &[0, 0]));
+    assert_eq!(folder.done("plan zero 0,1 -o out"), "wrote out: 18 bytes, 2 steps, reads 0 symbols\n");
+    assert!(folder.done("show zero --disk 0,1").contains("2 steps, reads 0 of 0 surviving\nsymbols."));
+}
+
+#[test]
+fn the_longest_plan_for_several_disks_is_not_cut() {
+    let folder = Folder::new();
+    folder.put("code", &sheet(64, 1, 1, &[0; 64]));
+    let all: Vec<u8> = (0..64).collect();
+    let mut plan = [&[5, 3, 64, 1, 1, 0, 64][..], &all, &[64], &all, &[0, 4]].concat();
+    plan.extend((0..16).flat_map(|_| all.iter().flat_map(|&s| [0, s, 0])));
+    folder.put("plan", &plan);
+    folder.put("stripes", &[7; 128]);
+    assert!(folder
+        .done("check code 0-63 plan")
+        .starts_with("accepted, reads 0 symbols, brings back disk 0 row 0, disk 1 row 0,"));
+    folder.done("rebuild code 0-63 plan --symbol 1 stripes --in-place");
+    assert_eq!(folder.get("stripes"), [0; 128]);
+    plan.push(0);
+    folder.put("plan", &plan);
+    let sentence = folder.refused("check code 0-63 plan", 12, 0);
+    assert!(sentence.contains("more than 3210 bytes"), "{sentence}");
+}
+
 #[test]
 fn worked_plans_get_their_answers() {
     let folder = Folder::square();
@@ -367,7 +618,8 @@ fn worked_plans_get_their_answers() {
         (p2_with(5, 1), 16, 0),
         (p2_with(1, 3), 14, 0),
         (p2_with(1, 2), 23, 0),
-        (p2_with(0, 5), 13, 0),
+        (p2_with(0, 5), 14, 0),
+        (p2_with(0, 4), 13, 0),
         (p2_with(8, 5), 13, 0),
         (p2_with(7, 5), 11, 0),
         (p2_with(7, 3), 12, 0),
@@ -624,16 +876,21 @@ fn expected(answer: Result<u64, model::No>) -> (i32, String) {
 }
 
 fn judged_like_the_model(folder: &Folder, code: &[u8], plan: &[u8]) {
+    judged_for(folder, code, "0", &[0], plan);
+}
+
+/// Judges a plan for disks, in words of the command line and as a list.
+fn judged_for(folder: &Folder, code: &[u8], disks: &str, list: &[u8], plan: &[u8]) {
     folder.put("code", code);
     folder.put("plan", plan);
-    let (status, head) = expected(model::check(code, 0, plan));
-    let ran = folder.run("check code 0 plan");
+    let (status, head) = expected(model::check_disks(code, list, plan));
+    let ran = folder.run(&format!("check code {disks} plan"));
     let said = if status == 0 { &ran.out } else { &ran.err };
-    assert_eq!(ran.status, status, "{code:?} {plan:?} {ran:?}");
-    assert!(said.starts_with(&head), "{head}: {said}, {code:?} {plan:?}");
+    assert_eq!(ran.status, status, "{code:?} {disks} {plan:?} {ran:?}");
+    assert!(said.starts_with(&head), "{head}: {said}, {code:?} {disks} {plan:?}");
     let before = folder.contents();
-    if folder.run("rebuild code 0 plan --symbol 1 stripes --in-place").status != 0 {
-        assert_eq!(folder.contents(), before, "{code:?} {plan:?}");
+    if folder.run(&format!("rebuild code {disks} plan --symbol 1 stripes --in-place")).status != 0 {
+        assert_eq!(folder.contents(), before, "{code:?} {disks} {plan:?}");
     }
 }
 
@@ -645,8 +902,9 @@ fn damaged_sheets_are_judged_as_the_rules_say() {
         judged_like_the_model(&folder, &code[..cut], &P2);
     }
     let listed = row_1_of_the_square(2);
-    for plan in [&P2[..], &listed] {
+    for plan in [&P2[..], &listed, &DISKS_0_AND_2] {
         (0..=plan.len()).for_each(|cut| judged_like_the_model(&folder, &code, &plan[..cut]));
+        (0..=plan.len()).for_each(|cut| judged_for(&folder, &code, "0,2", &[0, 2], &plan[..cut]));
     }
     let mut random = Random::new(11);
     for round in 0..250 {
@@ -656,14 +914,17 @@ fn damaged_sheets_are_judged_as_the_rules_say() {
         };
         let damaged_plan = random::damaged(&mut random, if round % 2 == 0 { &P2 } else { &listed });
         judged_like_the_model(&folder, &damaged_code, &damaged_plan);
+        let damaged_plan = random::damaged(&mut random, &DISKS_0_AND_2);
+        judged_for(&folder, &damaged_code, "2,0", &[0, 2], &damaged_plan);
         folder.put("stripes", &P1);
     }
-    for length in [1, 100, 518, 519, 3081, 3082, 3114, 3115, 3_000_000] {
+    for length in [1, 100, 518, 519, 3081, 3082, 3114, 3115, 3210, 3211, 3_000_000] {
         let mut noise = random.bytes(length);
         judged_like_the_model(&folder, &noise, &P2);
         judged_like_the_model(&folder, &code, &noise);
         // With a good head, and at times a good list.
-        for listed in [P2[..7].to_vec(), listed[..8].to_vec(), listed[..9].to_vec()] {
+        let disks = [8, 9, 10].map(|length| DISKS_0_AND_2[..length].to_vec());
+        for listed in [P2[..7].to_vec(), listed[..8].to_vec(), listed[..9].to_vec()].into_iter().chain(disks) {
             let good = listed.len().min(noise.len());
             noise[..good].copy_from_slice(&listed[..good]);
             judged_like_the_model(&folder, &code, &noise);
@@ -773,7 +1034,7 @@ fn plans_with_a_list_are_not_cut() {
     let said = folder.done("rebuild code 0 plan --symbol 1 stripes --in-place");
     assert!(said.starts_with("rebuilt disk 0 row 1 in 1 stripe: stripes\n"), "{said}");
     for (more, said) in
-        [(1, "it has 3084 bytes"), (30, "it has 3114 bytes"), (1, "it has more than 3114 bytes"), (9000, "more than")]
+        [(1, "it has 3084 bytes"), (126, "it has 3210 bytes"), (1, "it has more than 3210 bytes"), (9000, "more than")]
     {
         plan.extend(vec![0; more]);
         folder.put("plan", &plan);
@@ -829,10 +1090,6 @@ fn misuse_is_explained() {
         ("check", "CODE is missing"),
         ("check code 0", "PLAN is missing"),
         ("check code 0 plan plan", "'plan' is one word too many"),
-        ("check code zero plan", "not 'zero'"),
-        ("check code +0 plan", "not '+0'"),
-        ("check code 0x1 plan", "not '0x1'"),
-        ("check code 18446744073709551616 plan", "DISK must be a decimal number"),
         ("check code -1 plan", "no option -1"),
         ("check code 0 plan --fast", "no option --fast"),
         ("check - 0 plan", "standard input and output aren't supported"),
@@ -848,8 +1105,35 @@ fn misuse_is_explained() {
         ("show code --disk 0 --plan plan --want 0", "--want and --plan exclude each other"),
         ("check code 0 plan --want 0", "check has no option --want"),
         ("rebuild code 0 plan --symbol 1 stripes --want 0", "rebuild has no option --want"),
-        ("show code --disk=x", "not 'x'"),
         ("demo now", "'now' is one word too many"),
+    ] {
+        let said = folder.misused(line);
+        assert!(said.contains(piece), "{line}: {said}");
+        assert!(said.contains("says how it is used"), "{line}: {said}");
+    }
+}
+
+#[test]
+fn disks_that_cannot_be_understood_are_misuse() {
+    let folder = Folder::square();
+    for (line, piece) in [
+        ("check code zero plan", "not 'zero'"),
+        ("check code +0 plan", "not '+0'"),
+        ("check code 0x1 plan", "not '0x1'"),
+        (
+            "check code 18446744073709551616 plan",
+            "DISKS must be a disk, like 3, or several, like 0,3 or 0-2, not '1844",
+        ),
+        ("check code 0, plan", "not '0,'"),
+        ("check code ,0 plan", "not ',0'"),
+        ("check code 0;1 plan", "not '0;1'"),
+        ("check code 1-0 plan", "not '1-0'"),
+        ("check code 0-300 plan", "not '0-300'"),
+        ("check code s0 plan", "not 's0'"),
+        ("plan code 0,x -o out", "not '0,x'"),
+        ("show code --disk 0,,1", "not '0,,1'"),
+        ("strip code 0,1 --symbol 1 stripes -o out", "DISK must be a decimal number"),
+        ("show code --disk=x", "not 'x'"),
     ] {
         let said = folder.misused(line);
         assert!(said.contains(piece), "{line}: {said}");
@@ -876,7 +1160,7 @@ fn lists_that_cannot_be_understood_are_misuse() {
         ("plan code 0 --want s0-1 -o out", "'s0-1' is neither"),
         ("plan code 0 --want 99999999999999999999 -o out", "'99999999999999999999' is neither"),
         ("plan code 0 --want 1-0 -o out", "'1-0' falls"),
-        ("plan code 0 --want 0-18446744073709551615 -o out", "is more than any disk has"),
+        ("plan code 0 --want 0-18446744073709551615 -o out", "is more than any array has"),
     ] {
         let said = folder.misused(line);
         assert!(said.contains(piece), "{line}: {said}");
@@ -1067,8 +1351,11 @@ fn pictures_of_every_family_fit() {
         let Ok(sheet) = model::family(name, a, b) else { continue };
         folder.put("code", &sheet);
         let last = sheet[2] - 1;
-        for line in ["show code --svg out".to_string(), format!("show code --disk {last} --svg out")] {
-            folder.done(&line);
+        let lost = ["".to_string(), format!("--disk {last}"), format!("--disk 0,{last}"), format!("--disk 0-{last}")];
+        for lost in lost {
+            let line = format!("show code {lost} --svg out");
+            let status = folder.run(&line).status;
+            assert!(status == 0 || status == 1 && lost.contains("0"), "{line}: {status}");
             let picture = String::from_utf8(folder.get("out")).expect("text");
             texts_fit(&picture, &format!("{name} {a} {b}, {line}"));
             balanced(&picture);
@@ -1076,7 +1363,7 @@ fn pictures_of_every_family_fit() {
         }
     }
     println!("{drawn} pictures");
-    assert!(drawn > 400, "{drawn} pictures");
+    assert!(drawn > 800, "{drawn} pictures");
     // Codes of no family, sums of many members, and a plan that isn't short.
     let rows: Vec<u64> = (0..64).map(|s| if s < 32 { u64::from(u32::MAX) } else { 1 << (s - 32) }).collect();
     folder.put("code", &sheet(2, 32, 32, &rows));
@@ -1094,7 +1381,7 @@ fn the_readme_is_true() {
     folder.put("examples/register.txt", include_bytes!("../../examples/register.txt"));
     let readme = include_str!("../../README.md");
     let lines: Vec<&str> = readme.lines().filter_map(|line| line.strip_prefix("    navorzim ")).collect();
-    assert_eq!(lines.len(), 8);
+    assert_eq!(lines.len(), 10);
     for line in lines {
         folder.done(line);
     }

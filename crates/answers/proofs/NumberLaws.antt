@@ -26,6 +26,7 @@ use Rattle.refusals.specs.declared.Refusal.the-variants.{
   EndsWrong,
   WrongReadCount,
   BadWantedList,
+  BadDiskList,
   StepOntoItself,
   SymbolLength,
   StripeLength,
@@ -55,10 +56,11 @@ not-numbered-0 PlanOfAnotherDisk = refl
 not-numbered-0 (MalformedStep step) = refl
 not-numbered-0 (TargetNotWanted step) = refl
 not-numbered-0 (UnfilledPlaceUsed step) = refl
-not-numbered-0 (NeverFilled row) = refl
+not-numbered-0 (NeverFilled place) = refl
 not-numbered-0 (EndsWrong place) = refl
 not-numbered-0 (WrongReadCount count) = refl
 not-numbered-0 (BadWantedList position) = refl
+not-numbered-0 (BadDiskList position) = refl
 not-numbered-0 (StepOntoItself step) = refl
 not-numbered-0 SymbolLength = refl
 not-numbered-0 StripeLength = refl

@@ -11,7 +11,7 @@ use Rattle.family_codes.specs.declared.Family.the-variants.{Liberation, RowDiag
 use Rattle.bits.specs.BitSets.{with}
 use Rattle.lines.specs.Lines.{deskText}
 use Rattle.planner.specs.Demand3.{CannotBeRebuilt, IsPlan, Promised}
-use Rattle.planner.specs.Planning.{Found, APattern, wholeDisk, listedOn}
+use Rattle.planner.specs.Planning.{Asked, Found, APattern, wholeDisk, listedOn, listedOnSet, leastBuffer}
 use Rattle.rebuild.specs.Rebuild.{stripeAfter}
 use Rattle.refusals.specs.Refusals.{_at_}
 use Rattle.refusals.specs.Orders.{Answer, Gives, Refuses}
@@ -46,6 +46,23 @@ wantedPlan reads rest = 6 ∷ 2 ∷ 4 ∷ 2 ∷ 4 ∷ 0 ∷ reads ∷ rest
 abbrev pub stepsOfSymbol0 : List ℕ
 stepsOfSymbol0 = 2 ∷ 0 ∷ 1 ∷ 0 ∷ 2 ∷ 2 ∷ 0 ∷ 4 ∷ []
 
+-- An edition 3 plan of the square code, from its read count on
+abbrev pub setPlan : ℕ → List ℕ → List ℕ
+setPlan reads rest = 5 ∷ 3 ∷ 4 ∷ 2 ∷ 4 ∷ reads ∷ rest
+
+-- Steps that make symbols 0, 1, 4 and 5, all of disks 0 and 2, with their count, but for the last source
+abbrev pub stepsOfTwoDisks : ℕ → List ℕ
+stepsOfTwoDisks last =
+    8 ∷ 0 ∷ 1 ∷ 0 ∷ 6 ∷ 2 ∷ 0 ∷ 3 ∷ 1 ∷ 1 ∷ 7 ∷ 2 ∷ 1 ∷ 2 ∷ 1 ∷ 4 ∷ 0 ∷ 2 ∷ 4 ∷ 2 ∷ 1 ∷ 5 ∷ 1 ∷ 2 ∷ 5 ∷ last ∷ []
+
+-- Those of them that make symbols 0 and 4, with their count
+abbrev pub stepsOfSymbols0And4 : List ℕ
+stepsOfSymbols0And4 = 4 ∷ 0 ∷ 1 ∷ 0 ∷ 6 ∷ 2 ∷ 0 ∷ 3 ∷ 1 ∷ 4 ∷ 0 ∷ 2 ∷ 4 ∷ 2 ∷ []
+
+-- The set of one disk
+abbrev pub alone : ℕ → List ℕ
+alone disk = disk ∷ []
+
 -- `code 4 2 4`, `disk 0`, and the answer's lines
 abbrev pub squareLines : List ℕ → List ℕ
 squareLines answer =
@@ -75,20 +92,20 @@ withBits (bit ∷ bits) = with (withBits bits) bit
 pub data Case : Type 0 where
   -- Encoding the data under a code sheet gives the stripe, whatever it held before
   encodes : List ℕ → ℕ → List ℕ → List ℕ → Case
-  -- Checking a plan sheet for a code sheet and a disk answers so
-  answers : List ℕ → ℕ → List ℕ → Answer ℕ → Case
-  -- A rebuild of a disk by a plan sheet turns the one stripe, of symbols of so many bytes, into the other
-  rebuilds : List ℕ → ℕ → List ℕ → ℕ → List ℕ → List ℕ → Case
+  -- Checking a plan sheet for a code sheet and a set of disks answers so
+  answers : List ℕ → List ℕ → List ℕ → Answer ℕ → Case
+  -- A rebuild of a set of disks by a plan sheet turns the one stripe, of symbols of so many bytes, into the other
+  rebuilds : List ℕ → List ℕ → List ℕ → ℕ → List ℕ → List ℕ → Case
   -- For an input the desk prints these lines, as ASCII codes
   prints : List ℕ → List ℕ → Case
   -- A family's rows, from a symbol on
   rows-from : Family → ℕ → List ℕ → Case
-  -- The disk of a code sheet can't be rebuilt: no plan of any length would be accepted, and the pattern is a good one
-  pattern-of : List ℕ → ℕ → ℕ → Case
-  -- Planning for a code sheet and a disk can only answer so: no other answer keeps what the call promises
-  plans : List ℕ → ℕ → Answer Found → Case
-  -- Planning with a list of wanted symbols can only answer a plan
-  plans-wanted : List ℕ → ℕ → List ℕ → Case
+  -- What is asked for can't be rebuilt under a code sheet: no plan of any length would be accepted, and the pattern is a good one
+  pattern-of : List ℕ → Asked → ℕ → Case
+  -- Planning for a code sheet can only answer so: no other answer keeps what the call promises
+  plans : List ℕ → Asked → Answer Found → Case
+  -- Planning for a code sheet can only answer a plan
+  plans-some : List ℕ → Asked → Case
 
 -- The entries of a list from an index on, as many as there are on the right
 abbrev pub From : List ℕ → ℕ → List ℕ → Type 0
@@ -98,15 +115,15 @@ From rows start (row ∷ more) = (getD rows start 0 ≡ row) × From rows (suc s
 abbrev pub Right : Case → Type 0
 Right (encodes codeSheet L contents stripe) =
     (before : List ℕ) → length before ≡ length stripe → encodedStripe codeSheet L contents before ≡ stripe
-Right (answers codeSheet disk planSheet answer) = checked codeSheet disk planSheet ≡ answer
-Right (rebuilds codeSheet disk planSheet L before after) = stripeAfter codeSheet disk planSheet L before ≡ after
+Right (answers codeSheet disks planSheet answer) = checked codeSheet disks planSheet ≡ answer
+Right (rebuilds codeSheet disks planSheet L before after) = stripeAfter codeSheet disks planSheet L before ≡ after
 Right (prints input text) = deskText input ≡ text
 Right (rows-from family start rows) = From (familyCode family .rows) start rows
-Right (pattern-of codeSheet disk pattern) = CannotBeRebuilt (reading codeSheet .code) (wholeDisk disk) pattern
-Right (plans codeSheet disk answer) =
-    (before after : List ℕ) (given : Answer Found) → 3081 ≤ length before → Promised codeSheet (wholeDisk disk) before after given → given ≡ answer
-Right (plans-wanted codeSheet disk list) =
-    (before after : List ℕ) (given : Answer Found) → 3114 ≤ length before → Promised codeSheet (listedOn disk list) before after given → IsPlan given
+Right (pattern-of codeSheet asked pattern) = CannotBeRebuilt (reading codeSheet .code) asked pattern
+Right (plans codeSheet asked answer) =
+    (before after : List ℕ) (given : Answer Found) → leastBuffer (asked .edition) ≤ length before → Promised codeSheet asked before after given → given ≡ answer
+Right (plans-some codeSheet asked) =
+    (before after : List ℕ) (given : Answer Found) → leastBuffer (asked .edition) ≤ length before → Promised codeSheet asked before after given → IsPlan given
 
 abbrev pub AllRight : List Case → Type 0
 AllRight [] = Unit {0}
@@ -133,9 +150,9 @@ rulesCases =
     -- P1
     encodes square 1 (0x11 ∷ 0x22 ∷ 0x44 ∷ 0x88 ∷ []) (0x11 ∷ 0x22 ∷ 0x44 ∷ 0x88 ∷ 0x55 ∷ 0xAA ∷ 0x99 ∷ 0x66 ∷ [])
     -- P2: accepted, 3 reads
-    ∷ answers square 0 (squarePlan 3 1 0 7) (Gives 3)
+    ∷ answers square (alone 0) (squarePlan 3 1 0 7) (Gives 3)
     -- .. run on P1 with the first two bytes FF FF it gives P1 back
-    ∷ rebuilds square 0 (squarePlan 3 1 0 7) 1
+    ∷ rebuilds square (alone 0) (squarePlan 3 1 0 7) 1
     (0xFF ∷ 0xFF ∷ 0x44 ∷ 0x88 ∷ 0x55 ∷ 0xAA ∷ 0x99 ∷ 0x66 ∷ [])
     (0x11 ∷ 0x22 ∷ 0x44 ∷ 0x88 ∷ 0x55 ∷ 0xAA ∷ 0x99 ∷ 0x66 ∷ [])
     -- .. and the desk prints `code 4 2 4`, `disk 0`, `accepted`, `reads 3`, each on a line, and nothing else
@@ -143,21 +160,21 @@ rulesCases =
     -- .. for a refusal the last two lines are one, as `refused 22 at 3`
     ∷ prints (0 ∷ 70 ∷ 0 ∷ square ++ squarePlan 4 1 0 7) (squareLines refused22At3)
     -- P3: count 4
-    ∷ answers square 0 (squarePlan 4 1 0 7) (Refuses (22 at 3))
+    ∷ answers square (alone 0) (squarePlan 4 1 0 7) (Refuses (22 at 3))
     -- P4: last source 06. Row 1 ends wrong, and data symbol 0 is off (document 02, §7)
-    ∷ answers square 0 (squarePlan 3 1 0 6) (Refuses (21 at 64))
+    ∷ answers square (alone 0) (squarePlan 3 1 0 6) (Refuses (21 at 64))
     -- P5: first kind 2
-    ∷ answers square 0 (squarePlan 3 2 0 7) (Refuses (19 at 0))
+    ∷ answers square (alone 0) (squarePlan 3 2 0 7) (Refuses (19 at 0))
     -- P6: first target 02
-    ∷ answers square 0 (squarePlan 3 1 2 7) (Refuses (18 at 0))
+    ∷ answers square (alone 0) (squarePlan 3 1 2 7) (Refuses (18 at 0))
     -- P7: no steps
-    ∷ answers square 0 (6 ∷ 1 ∷ 4 ∷ 2 ∷ 4 ∷ 0 ∷ 3 ∷ 0 ∷ 0 ∷ []) (Refuses (20 at 0))
+    ∷ answers square (alone 0) (6 ∷ 1 ∷ 4 ∷ 2 ∷ 4 ∷ 0 ∷ 3 ∷ 0 ∷ 0 ∷ []) (Refuses (20 at 0))
     -- P8: no plan; the pattern is 1
-    ∷ pattern-of apart 0 1
+    ∷ pattern-of apart (wholeDisk 0) 1
     -- .. and planning answers it
-    ∷ plans apart 0 (Gives (APattern 1))
+    ∷ plans apart (wholeDisk 0) (Gives (APattern 1))
     -- P9: one clear, 0 reads
-    ∷ answers emptyRow 0 (6 ∷ 1 ∷ 2 ∷ 1 ∷ 1 ∷ 0 ∷ 0 ∷ 1 ∷ 0 ∷ 0 ∷ 0 ∷ 0 ∷ []) (Gives 0)
+    ∷ answers emptyRow (alone 0) (6 ∷ 1 ∷ 2 ∷ 1 ∷ 1 ∷ 0 ∷ 0 ∷ 1 ∷ 0 ∷ 0 ∷ 0 ∷ 0 ∷ []) (Gives 0)
     -- P10
     ∷ rows-from (RowDiagonal 3) 0 (1 ∷ 2 ∷ 4 ∷ 8 ∷ 5 ∷ 10 ∷ 11 ∷ 6 ∷ [])
     -- P11: row 31 has bits 1, 7, 13, 18, 19, 20; row 34 has bits 4, 5, 10, 11, 17, 23
@@ -169,46 +186,96 @@ rulesCases =
 abbrev pub wantedCases : List Case
 wantedCases =
     -- symbol 0 alone: accepted, 2 reads
-    answers square 0 (wantedPlan 2 (1 ∷ 0 ∷ stepsOfSymbol0)) (Gives 2)
+    answers square (alone 0) (wantedPlan 2 (1 ∷ 0 ∷ stepsOfSymbol0)) (Gives 2)
     -- .. and symbol 1, lost and not wanted, keeps its byte
-    ∷ rebuilds square 0 (wantedPlan 2 (1 ∷ 0 ∷ stepsOfSymbol0)) 1
+    ∷ rebuilds square (alone 0) (wantedPlan 2 (1 ∷ 0 ∷ stepsOfSymbol0)) 1
     (0xFF ∷ 0xEE ∷ 0x44 ∷ 0x88 ∷ 0x55 ∷ 0xAA ∷ 0x99 ∷ 0x66 ∷ [])
     (0x11 ∷ 0xEE ∷ 0x44 ∷ 0x88 ∷ 0x55 ∷ 0xAA ∷ 0x99 ∷ 0x66 ∷ [])
     -- a target that isn't wanted
-    ∷ answers square 0 (wantedPlan 2 (1 ∷ 1 ∷ stepsOfSymbol0)) (Refuses (18 at 0))
+    ∷ answers square (alone 0) (wantedPlan 2 (1 ∷ 1 ∷ stepsOfSymbol0)) (Refuses (18 at 0))
     -- a source that is lost and not wanted
-    ∷ answers square 0 (wantedPlan 2 (1 ∷ 0 ∷ 1 ∷ 0 ∷ 1 ∷ 0 ∷ 1 ∷ [])) (Refuses (19 at 0))
+    ∷ answers square (alone 0) (wantedPlan 2 (1 ∷ 0 ∷ 1 ∷ 0 ∷ 1 ∷ 0 ∷ 1 ∷ [])) (Refuses (19 at 0))
     -- row 1 is wanted: never filled, and ending wrong
-    ∷ answers square 0 (wantedPlan 0 (1 ∷ 1 ∷ 0 ∷ 0 ∷ [])) (Refuses (20 at 1))
-    ∷ answers square 0 (wantedPlan 1 (1 ∷ 1 ∷ 1 ∷ 0 ∷ 1 ∷ 1 ∷ 3 ∷ [])) (Refuses (21 at 65))
+    ∷ answers square (alone 0) (wantedPlan 0 (1 ∷ 1 ∷ 0 ∷ 0 ∷ [])) (Refuses (20 at 1))
+    ∷ answers square (alone 0) (wantedPlan 1 (1 ∷ 1 ∷ 1 ∷ 0 ∷ 1 ∷ 1 ∷ 3 ∷ [])) (Refuses (21 at 65))
     -- lists: none, more than r, an equal neighbour, a falling one, a symbol of another disk
-    ∷ answers square 0 (wantedPlan 2 (0 ∷ 0 ∷ 0 ∷ [])) (Refuses (23 at 0))
-    ∷ answers square 0 (wantedPlan 2 (3 ∷ 0 ∷ 0 ∷ 1 ∷ 0 ∷ 0 ∷ [])) (Refuses (23 at 0))
-    ∷ answers square 0 (wantedPlan 2 (2 ∷ 0 ∷ 0 ∷ 0 ∷ 0 ∷ [])) (Refuses (23 at 1))
-    ∷ answers square 0 (wantedPlan 2 (2 ∷ 1 ∷ 0 ∷ 0 ∷ 0 ∷ [])) (Refuses (23 at 1))
-    ∷ answers square 0 (wantedPlan 2 (1 ∷ 2 ∷ 0 ∷ 0 ∷ [])) (Refuses (23 at 0))
+    ∷ answers square (alone 0) (wantedPlan 2 (0 ∷ 0 ∷ 0 ∷ [])) (Refuses (23 at 0))
+    ∷ answers square (alone 0) (wantedPlan 2 (3 ∷ 0 ∷ 0 ∷ 1 ∷ 0 ∷ 0 ∷ [])) (Refuses (23 at 0))
+    ∷ answers square (alone 0) (wantedPlan 2 (2 ∷ 0 ∷ 0 ∷ 0 ∷ 0 ∷ [])) (Refuses (23 at 1))
+    ∷ answers square (alone 0) (wantedPlan 2 (2 ∷ 1 ∷ 0 ∷ 0 ∷ 0 ∷ [])) (Refuses (23 at 1))
+    ∷ answers square (alone 0) (wantedPlan 2 (1 ∷ 2 ∷ 0 ∷ 0 ∷ [])) (Refuses (23 at 0))
     -- the order: a list beyond the sheet's end, then 1,025 steps, then the list
-    ∷ answers square 0 (wantedPlan 2 (200 ∷ 1 ∷ 0 ∷ 1 ∷ 4 ∷ [])) (Refuses (11 at 0))
-    ∷ answers square 0 (wantedPlan 2 (2 ∷ 1 ∷ 0 ∷ 1 ∷ 4 ∷ [])) (Refuses (13 at 0))
+    ∷ answers square (alone 0) (wantedPlan 2 (200 ∷ 1 ∷ 0 ∷ 1 ∷ 4 ∷ [])) (Refuses (11 at 0))
+    ∷ answers square (alone 0) (wantedPlan 2 (2 ∷ 1 ∷ 0 ∷ 1 ∷ 4 ∷ [])) (Refuses (13 at 0))
     -- another edition
-    ∷ answers square 0 (6 ∷ 3 ∷ 4 ∷ 2 ∷ 4 ∷ 0 ∷ 2 ∷ 0 ∷ 0 ∷ []) (Refuses (14 at 0))
+    ∷ answers square (alone 0) (6 ∷ 3 ∷ 4 ∷ 2 ∷ 4 ∷ 0 ∷ 2 ∷ 0 ∷ 0 ∷ []) (Refuses (14 at 0))
     -- of a disk that can't be rebuilt whole, the row that can
-    ∷ plans-wanted half 0 (0 ∷ [])
+    ∷ plans-some half (listedOn 0 (0 ∷ []))
     ∷ []
 
 -- Document 02, §6: steps onto themselves
 abbrev pub ontoItselfCases : List Case
 ontoItselfCases =
     -- P2 with last source 01, which is its target
-    answers square 0 (squarePlan 3 1 0 1) (Refuses (25 at 3))
+    answers square (alone 0) (squarePlan 3 1 0 1) (Refuses (25 at 3))
     -- a copy and an add of an unfilled place
-    ∷ answers square 0 (oneStep 1 0 0) (Refuses (25 at 0))
-    ∷ answers square 0 (oneStep 2 1 1) (Refuses (25 at 0))
+    ∷ answers square (alone 0) (oneStep 1 0 0) (Refuses (25 at 0))
+    ∷ answers square (alone 0) (oneStep 2 1 1) (Refuses (25 at 0))
     -- a symbol that survives is no target
-    ∷ answers square 0 (oneStep 1 2 2) (Refuses (18 at 0))
+    ∷ answers square (alone 0) (oneStep 1 2 2) (Refuses (18 at 0))
     -- a clear of symbol 0, source byte 0, is no such step: row 1 is never filled
-    ∷ answers square 0 (oneStep 0 0 0) (Refuses (20 at 1))
+    ∷ answers square (alone 0) (oneStep 0 0 0) (Refuses (20 at 1))
+    ∷ []
+
+-- Document 02, §5: disks 0 and 2 of the square code, whose symbols are 0, 1, 4 and 5
+abbrev pub setCases : List Case
+setCases =
+    -- both disks, accepted with 4 reads: count 0 wants all lost symbols, and so does the list of all
+    answers square (0 ∷ 2 ∷ []) (setPlan 4 (2 ∷ 0 ∷ 2 ∷ 0 ∷ stepsOfTwoDisks 3)) (Gives 4)
+    ∷ answers square (0 ∷ 2 ∷ []) (setPlan 4 (2 ∷ 0 ∷ 2 ∷ 4 ∷ 0 ∷ 1 ∷ 4 ∷ 5 ∷ stepsOfTwoDisks 3)) (Gives 4)
+    -- .. and run on P1 with both strips ruined it gives P1 back
+    ∷ rebuilds square (0 ∷ 2 ∷ []) (setPlan 4 (2 ∷ 0 ∷ 2 ∷ 0 ∷ stepsOfTwoDisks 3)) 1
+    (0xFF ∷ 0xFF ∷ 0x44 ∷ 0x88 ∷ 0xFF ∷ 0xFF ∷ 0x99 ∷ 0x66 ∷ [])
+    (0x11 ∷ 0x22 ∷ 0x44 ∷ 0x88 ∷ 0x55 ∷ 0xAA ∷ 0x99 ∷ 0x66 ∷ [])
+    -- a symbol of each disk: accepted, 3 reads, and the others keep their bytes
+    ∷ answers square (0 ∷ 2 ∷ []) (setPlan 3 (2 ∷ 0 ∷ 2 ∷ 2 ∷ 0 ∷ 4 ∷ stepsOfSymbols0And4)) (Gives 3)
+    ∷ rebuilds square (0 ∷ 2 ∷ []) (setPlan 3 (2 ∷ 0 ∷ 2 ∷ 2 ∷ 0 ∷ 4 ∷ stepsOfSymbols0And4)) 1
+    (0xFF ∷ 0x77 ∷ 0x44 ∷ 0x88 ∷ 0xFF ∷ 0x77 ∷ 0x99 ∷ 0x66 ∷ [])
+    (0x11 ∷ 0x77 ∷ 0x44 ∷ 0x88 ∷ 0x55 ∷ 0x77 ∷ 0x99 ∷ 0x66 ∷ [])
+    -- the same steps, where all are wanted, and where symbol 5 is: places are symbol numbers
+    ∷ answers square (0 ∷ 2 ∷ []) (setPlan 3 (2 ∷ 0 ∷ 2 ∷ 0 ∷ stepsOfSymbols0And4)) (Refuses (20 at 1))
+    ∷ answers square (0 ∷ 2 ∷ []) (setPlan 3 (2 ∷ 0 ∷ 2 ∷ 3 ∷ 0 ∷ 4 ∷ 5 ∷ stepsOfSymbols0And4)) (Refuses (20 at 5))
+    -- last source 02: symbol 5 ends wrong, and data symbol 2 is off
+    ∷ answers square (0 ∷ 2 ∷ []) (setPlan 4 (2 ∷ 0 ∷ 2 ∷ 0 ∷ stepsOfTwoDisks 2)) (Refuses (21 at 322))
+    -- a symbol that survives between the two is no target, and can't be wanted
+    ∷ answers square (0 ∷ 2 ∷ []) (setPlan 0 (2 ∷ 0 ∷ 2 ∷ 0 ∷ 1 ∷ 0 ∷ 0 ∷ 2 ∷ 0 ∷ [])) (Refuses (18 at 0))
+    ∷ answers square (0 ∷ 2 ∷ []) (setPlan 0 (2 ∷ 0 ∷ 2 ∷ 2 ∷ 0 ∷ 2 ∷ 0 ∷ 0 ∷ [])) (Refuses (23 at 1))
+    -- asked about another set, or about one of the two; an edition 1 sheet asked about two disks
+    ∷ answers square (0 ∷ 1 ∷ []) (setPlan 4 (2 ∷ 0 ∷ 2 ∷ 0 ∷ stepsOfTwoDisks 3)) (Refuses (16 at 0))
+    ∷ answers square (alone 0) (setPlan 4 (2 ∷ 0 ∷ 2 ∷ 0 ∷ stepsOfTwoDisks 3)) (Refuses (16 at 0))
+    ∷ answers square (0 ∷ 2 ∷ []) (squarePlan 3 1 0 7) (Refuses (16 at 0))
+    -- asked about no set: a disk beyond the last, none, an equal neighbour, more than n
+    ∷ answers square (4 ∷ 0 ∷ []) (squarePlan 3 1 0 7) (Refuses (7 at 0))
+    ∷ answers square [] (squarePlan 3 1 0 7) (Refuses (24 at 0))
+    ∷ answers square (0 ∷ 0 ∷ []) (squarePlan 3 1 0 7) (Refuses (24 at 1))
+    ∷ answers square (0 ∷ 1 ∷ 2 ∷ 3 ∷ 3 ∷ []) (squarePlan 3 1 0 7) (Refuses (24 at 0))
+    -- sheets that list no set
+    ∷ answers square (alone 0) (setPlan 0 (2 ∷ 4 ∷ 0 ∷ 0 ∷ 0 ∷ 0 ∷ [])) (Refuses (7 at 0))
+    ∷ answers square (alone 0) (setPlan 0 (0 ∷ 0 ∷ 0 ∷ 0 ∷ [])) (Refuses (24 at 0))
+    ∷ answers square (alone 0) (setPlan 0 (2 ∷ 0 ∷ 0 ∷ 0 ∷ 0 ∷ 0 ∷ [])) (Refuses (24 at 1))
+    -- the order: a list beyond the sheet's end, then 1,025 steps, then the lists
+    ∷ answers square (alone 0) (setPlan 0 (1 ∷ 4 ∷ 200 ∷ 1 ∷ 4 ∷ [])) (Refuses (11 at 0))
+    ∷ answers square (alone 0) (setPlan 0 (1 ∷ 4 ∷ 0 ∷ 1 ∷ 4 ∷ [])) (Refuses (13 at 0))
+    ∷ answers square (alone 0) (setPlan 0 (1 ∷ 1 ∷ 1 ∷ 4 ∷ 0 ∷ 0 ∷ [])) (Refuses (16 at 0))
+    -- another first count, another edition for the first count 5
+    ∷ answers square (alone 0) (7 ∷ 3 ∷ 4 ∷ 2 ∷ 4 ∷ 0 ∷ 1 ∷ 0 ∷ 0 ∷ []) (Refuses (13 at 0))
+    ∷ answers square (alone 0) (5 ∷ 1 ∷ 4 ∷ 2 ∷ 4 ∷ 0 ∷ 1 ∷ 0 ∷ 0 ∷ []) (Refuses (14 at 0))
+    -- all disks of P9 lost: its row of no bits can be had by a clear, and its other row by no plan
+    ∷ answers emptyRow (0 ∷ 1 ∷ []) (5 ∷ 3 ∷ 2 ∷ 1 ∷ 1 ∷ 0 ∷ 2 ∷ 0 ∷ 1 ∷ 1 ∷ 0 ∷ 1 ∷ 0 ∷ 0 ∷ 0 ∷ 0 ∷ []) (Gives 0)
+    ∷ plans-some emptyRow (listedOnSet (0 ∷ 1 ∷ []) (0 ∷ []))
+    ∷ pattern-of emptyRow (listedOnSet (0 ∷ 1 ∷ []) []) 1
+    ∷ plans emptyRow (listedOnSet (0 ∷ 1 ∷ []) []) (Gives (APattern 1))
     ∷ []
 
 unfoldable pub table : List Case
-table = rulesCases ++ wantedCases ++ ontoItselfCases
+table = rulesCases ++ wantedCases ++ ontoItselfCases ++ setCases

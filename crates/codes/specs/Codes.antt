@@ -50,9 +50,9 @@ pub record WithinLimits (code : LinearCode) : Type 0 where
   pub rows-below : (s : ℕ) → getD (code .rows) s 0 < 2 ^ code .data_symbols
   pub rows-behind : (s : ℕ) → symbols code ≤ s → getD (code .rows) s 0 ≡ 0
 
--- A disk of an array within the limits, whose symbols a set can hold
-pub record DiskWithin (layout : Layout) (disk : ℕ) : Type 0 where
-  pub disk-below : disk < layout .disks
+-- An array within the limits, whose symbols a set can hold
+pub record LayoutWithin (layout : Layout) : Type 0 where
   pub disks-to : layout .disks ≤ 64
+  pub height-from : 1 ≤ layout .height
   pub height-to : layout .height ≤ 32
   pub symbols-to : symbolsOf layout ≤ setWidth

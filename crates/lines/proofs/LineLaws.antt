@@ -1,7 +1,7 @@
 -- Laws of the whole text: what it is for an input, and what a buffer holds once it is copied there. Assumes nothing.
 use mathlib.Core.Path.{_≡_, sym, ap, ap₂, _∙_}
 use mathlib.Core.Bool.{Bool, true, false, cond}
-use mathlib.Core.List.{List, _++_}
+use mathlib.Core.List.{List, [], _∷_, _++_}
 use Prim.Native.Nat.{ℕ, _+_, _≤_, _<_}
 use native.Mathlib.Omega.{arith}
 use borrow.Author.Tests.{le-leb, lt-leb}
@@ -27,12 +27,12 @@ module _ (input sheet : List ℕ) (read : CodeRead) (as-sheet : sheet ≡ codeSh
   pub text-if-refused : (refusal : Numbered) → read .verdict ≡ Refused refusal → refusalLine (refusal .number) (refusal .place) ≡ deskText input
   unfolding deskText
   text-if-refused refusal e =
-      let answer = checked (codeSheetIn input) (diskIn input) (planSheetIn input) in
+      let answer = checked (codeSheetIn input) (diskIn input ∷ []) (planSheetIn input) in
       ap (λ (v : Outcome). linesOf v (read .code) (diskIn input) answer) (sym e)
       ∙ ap (λ (r : CodeRead). linesOf (r .verdict) (r .code) (diskIn input) answer) (as-read ∙ ap reading as-sheet)
 
   -- Else the lines of the code, the disk and the answer
-  pub text-if-fine : (plan : List ℕ) (disk : ℕ) (answer : Answer ℕ) → plan ≡ planSheetIn input → disk ≡ diskIn input → answer ≡ checked sheet disk plan
+  pub text-if-fine : (plan : List ℕ) (disk : ℕ) (answer : Answer ℕ) → plan ≡ planSheetIn input → disk ≡ diskIn input → answer ≡ checked sheet (disk ∷ []) plan
       → read .verdict ≡ Fine → linesOf Fine (read .code) disk answer ≡ deskText input
   unfolding deskText
   text-if-fine plan disk answer as-plan as-disk as-answer e =
@@ -40,7 +40,7 @@ module _ (input sheet : List ℕ) (read : CodeRead) (as-sheet : sheet ≡ codeSh
       ∙ ap (λ (r : CodeRead). linesOf (r .verdict) (r .code) disk answer) (as-read ∙ ap reading as-sheet)
       ∙ ap₂ (λ (d : ℕ) (a : Answer ℕ). linesOf (reading (codeSheetIn input) .verdict) (reading (codeSheetIn input) .code) d a) as-disk checked-so
     where
-      checked-so : answer ≡ checked (codeSheetIn input) (diskIn input) (planSheetIn input)
+      checked-so : answer ≡ checked (codeSheetIn input) (diskIn input ∷ []) (planSheetIn input)
       checked-so = cc
 
 -- The lines of any verdict and answer are not empty
@@ -54,7 +54,7 @@ pub text-not-empty : (input : List ℕ) → 0 < length (deskText input)
 unfolding deskText
 text-not-empty input =
     let read = reading (codeSheetIn input) in
-    lines-not-empty (read .verdict) (read .code) (diskIn input) (checked (codeSheetIn input) (diskIn input) (planSheetIn input))
+    lines-not-empty (read .verdict) (read .code) (diskIn input) (checked (codeSheetIn input) (diskIn input ∷ []) (planSheetIn input))
 
 -- ------------------------------------------------------------------
 -- The text in a buffer

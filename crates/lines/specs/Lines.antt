@@ -69,11 +69,11 @@ linesOf (Refused refusal) code disk answer = refusalLine (refusal .number) (refu
 linesOf Fine code disk answer =
     codeLine (code .layout .disks) (code .layout .height) (code .data_symbols) ++ diskLine disk ++ answerLines answer
 
--- What the desk prints for an input
+-- What the desk prints for an input: it asks about the set of its one disk
 unfoldable pub deskText : List ℕ → List ℕ
 deskText input =
     let read = reading (codeSheetIn input) in
-    linesOf (read .verdict) (read .code) (diskIn input) (checked (codeSheetIn input) (diskIn input) (planSheetIn input))
+    linesOf (read .verdict) (read .code) (diskIn input) (checked (codeSheetIn input) (diskIn input ∷ []) (planSheetIn input))
 
 -- ------------------------------------------------------------------
 -- The text in a buffer: at its front where there is room for it, bytes behind it stay; nowhere else

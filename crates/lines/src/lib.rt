@@ -100,7 +100,8 @@ fn desk_text(input: &[u8]) -> Text
     let code = reading.code;
     let Verdict::Refused(refusal) = verdict else {
         let disk = byte_at(input, 0);
-        return report(code, disk, check(sheet, disk, plan));
+        let disks = [disk as u8];
+        return report(code, disk, check(sheet, &disks, plan));
     };
     refusal_text(refusal)
 }

@@ -1,20 +1,22 @@
 -- Laws of rising lists: no fault exactly where the list keeps the rule, and what is listed. Assumes nothing.
-use mathlib.Core.Path.{_≡_, refl, sym, ap, _∙_}
+use mathlib.Core.Path.{_≡_, refl, sym, ap, ap₂, _∙_}
 use mathlib.Core.Bool.{Bool, true, false, not, _&&_, _||_, true≢false}
-use mathlib.Core.List.{List, [], _∷_}
+use mathlib.Core.List.{List, [], _∷_, _++_}
 use Prim.Native.Nat.{ℕ, zero, suc, _+_, _-_, _≤_, _<_}
+use native.Mathlib.Numerals.{add-one}
 use native.Mathlib.Omega.{arith}
-use lib.Dec.{eqb, leb}
-use lib.ListN.{length, getD, take}
-use borrow.Author.Tests.{leb-false, ltb-false, le-leb, lt-leb, le-ltb, eqb-true, not-false}
-use lib.Seq.{take-all}
+use lib.Dec.{eqb, leb, ltb}
+use lib.ListN.{length, getD, take, drop, drop-of-length-le}
+use borrow.Author.Tests.{leb-false, ltb-false, ltb-true, le-leb, lt-leb, le-ltb, eq-eqb, ne-eqb, eqb-true, not-false}
+use lib.Seq.{take-all, drop-cons}
 use Rattle.bits.specs.BitSets.{has, with}
-use Rattle.bits.proofs.Booleans.{or-false-both, or-shift}
+use Rattle.bits.proofs.Booleans.{or-false-both, or-shift, and-left, and-right}
 use Rattle.bits.proofs.SearchLaws.{firstFrom-none, firstFrom-found, none-if-firstFrom-behind}
 use Rattle.bits.proofs.SetLaws.{has-empty, has-with}
-use Rattle.refusals.specs.Refusals.{Numbered}
-use Rattle.refusals.proofs.OrderLaws.{NoneHolds}
-use Rattle.lists.specs.Lists.{notRising, firstBad, listFaults, GoodList, listed}
+use Rattle.refusals.specs.Refusals.{Numbered, _at_}
+use Rattle.refusals.specs.Orders.{Fault, orIf, andThen, Fine, Refused}
+use Rattle.refusals.proofs.OrderLaws.{NoneHolds, refusal-stands}
+use Rattle.lists.specs.Lists.{notRising, firstBad, listFaults, GoodList, listed, anyFrom, diskFaults, GoodDisks, same}
 
 -- An entry from position 1 on rises if it is above the one before it
 pub notRising-behind : (list : List ℕ) (i : ℕ) → 1 ≤ i → notRising list i ≡ leb (getD list i 0) (getD list (i - 1) 0)
@@ -109,3 +111,102 @@ module _ (allowed : ℕ → Bool) (list : List ℕ) (i : ℕ) (none : (j : ℕ) 
   bad-none h all =
       let end : i ≡ 0 + length list = omega arith in
       end ∙ sym (firstFrom-none (λ j. not (allowed (getD list j 0)) || notRising list j) (length list) 0 (λ j a b. none j (omega arith)))
+
+-- ------------------------------------------------------------------
+-- Lists of disks
+
+-- Where each entry is below a bound, none is from it on
+none-from : (bound : ℕ) (list : List ℕ) → ((i : ℕ) → i < length list → ltb (getD list i 0) bound ≡ true) → anyFrom bound list ≡ false
+unfolding anyFrom
+none-from bound [] each = refl
+none-from bound (entry ∷ list) each =
+    rw (lt-leb bound entry (ltb-true entry bound (each 0 (omega arith)))) (none-from bound list (λ i h. each (suc i) (omega arith)))
+
+module _ (disks most : ℕ) (list : List ℕ) where
+  -- A list of disks without a fault keeps the rule
+  pub good-disks-if-no-fault : NoneHolds (diskFaults disks most list) → GoodDisks disks most list
+  good-disks-if-no-fault none = good-if-no-fault 1 most (λ disk. ltb disk disks) list (λ position. 24 at position) (none .1)
+
+  -- One that keeps the rule has no fault
+  pub no-fault-if-good-disks : GoodDisks disks most list → NoneHolds (diskFaults disks most list)
+  no-fault-if-good-disks good = (none-from disks list (good .each-allowed), no-fault-if-good 1 most (λ disk. ltb disk disks) list (λ position. 24 at position) good)
+
+-- One disk that is none of the array's is refused with 7, whatever is tested behind
+pub no-such-disk : (disks most disk : ℕ) (rest : List Fault) → disks ≤ disk → andThen Fine (diskFaults disks most (disk ∷ []) ++ rest) ≡ Refused (7 at 0)
+unfolding anyFrom orIf
+no-such-disk disks most disk rest beyond =
+    let later = listFaults 1 most (λ d. ltb d disks) (disk ∷ []) (λ position. 24 at position) ++ rest in
+    ap (λ (c : Bool). andThen (orIf Fine (c || false) (7 at 0)) later) (le-leb disks disk beyond) ∙ refusal-stands (7 at 0) later
+
+module _ (bound : ℕ) (list : List ℕ) (i : ℕ) where
+  -- An entry from the bound on
+  pub anyFrom-found : i < length list → anyFrom bound (drop i list) ≡ anyFrom bound list → bound ≤ getD list i 0 → true ≡ anyFrom bound list
+  unfolding anyFrom
+  anyFrom-found h left from =
+      sym (ap (λ (c : Bool). c || anyFrom bound (drop (suc i) list)) (le-leb bound (getD list i 0) from))
+      ∙ ap (anyFrom bound) (sym (drop-cons list i 0 h))
+      ∙ left
+
+  -- An entry below the bound leaves it to those behind it
+  pub anyFrom-passed : i < length list → anyFrom bound (drop i list) ≡ anyFrom bound list → getD list i 0 < bound
+      → anyFrom bound (drop (i + 1) list) ≡ anyFrom bound list
+  unfolding anyFrom
+  anyFrom-passed h left below =
+      ap (λ (n : ℕ). anyFrom bound (drop n list)) (add-one i)
+      ∙ sym (ap (λ (c : Bool). c || anyFrom bound (drop (suc i) list)) (lt-leb bound (getD list i 0) below))
+      ∙ ap (anyFrom bound) (sym (drop-cons list i 0 h))
+      ∙ left
+
+  -- Behind the last entry there is none
+  pub anyFrom-none : length list ≤ i → anyFrom bound (drop i list) ≡ anyFrom bound list → false ≡ anyFrom bound list
+  unfolding anyFrom
+  anyFrom-none all left = sym (ap (anyFrom bound) (drop-of-length-le list all)) ∙ left
+
+-- ------------------------------------------------------------------
+-- Two lists as one
+
+-- Lists that pass the test are one
+pub same-means-equal : (list other : List ℕ) → same list other ≡ true → list ≡ other
+unfolding same
+same-means-equal [] [] e = refl
+same-means-equal [] (other ∷ others) e = absurd (true≢false (sym e))
+same-means-equal (entry ∷ list) [] e = absurd (true≢false (sym e))
+same-means-equal (entry ∷ list) (other ∷ others) e =
+    ap₂ (λ (a : ℕ) (b : List ℕ). a ∷ b) (eqb-true entry other (and-left (eqb entry other) (same list others) e)) (same-means-equal list others (and-right (eqb entry other) (same list others) e))
+
+-- and one list does
+pub same-itself : (list : List ℕ) → same list list ≡ true
+unfolding same
+same-itself [] = refl
+same-itself (entry ∷ list) = rw (eq-eqb entry entry refl) (same-itself list)
+
+-- Lists of other lengths don't
+pub same-lengths : (list other : List ℕ) → (length list ≡ length other → ⊥) → false ≡ same list other
+same-lengths list other apart = by-test (same list other) refl
+  where
+    by-test : (c : Bool) → same list other ≡ c → false ≡ c
+    by-test true e = absurd (apart (ap length (same-means-equal list other e)))
+    by-test false e = refl
+
+module _ (list other : List ℕ) (i : ℕ) (left : same (drop i list) (drop i other) ≡ same list other) where
+  -- Where entries differ, the lists do
+  pub same-apart : i < length list → i < length other → (getD list i 0 ≡ getD other i 0 → ⊥) → false ≡ same list other
+  unfolding same
+  same-apart h g apart =
+      sym (ap (λ (c : Bool). c && same (drop (suc i) list) (drop (suc i) other)) (ne-eqb (getD list i 0) (getD other i 0) apart))
+      ∙ sym (ap₂ same (drop-cons list i 0 h) (drop-cons other i 0 g))
+      ∙ left
+
+  -- Where they don't, those behind them decide
+  pub same-passed : i < length list → i < length other → getD list i 0 ≡ getD other i 0 → same (drop (i + 1) list) (drop (i + 1) other) ≡ same list other
+  unfolding same
+  same-passed h g alike =
+      ap (λ (n : ℕ). same (drop n list) (drop n other)) (add-one i)
+      ∙ sym (ap (λ (c : Bool). c && same (drop (suc i) list) (drop (suc i) other)) (eq-eqb (getD list i 0) (getD other i 0) alike))
+      ∙ sym (ap₂ same (drop-cons list i 0 h) (drop-cons other i 0 g))
+      ∙ left
+
+  -- Behind the last entries the lists are one
+  pub same-ended : length list ≤ i → length other ≤ i → true ≡ same list other
+  unfolding same
+  same-ended all all' = sym (ap₂ same (drop-of-length-le list all) (drop-of-length-le other all')) ∙ left

@@ -11,34 +11,58 @@ use lib.Seq.{getD-drop, drop-drop}
 use borrow.Author.Tests.{eq-eqb, ne-eqb}
 use Rattle.gf2.specs.Plans.{target}
 use Rattle.gf2.specs.declared.Step.the-variants.{Clear, Copy, Add}
-use Rattle.plan_sheets.specs.PlanSheets.{SheetStep, stepOf, sectionsFor, sectionsIn, headLength, stepsLength, firstStep, stepAt, sheetSteps}
+use Rattle.plan_sheets.specs.PlanSheets.{SheetStep, stepOf, listFrom, sectionsFor, sectionsIn, headLength, stepsLength, firstStep, stepAt, sheetSteps}
+use Rattle.plan_sheets.specs.InnerPlanSheets.{SmallSections}
 
 -- ------------------------------------------------------------------
 -- The sections
 
-module _ (edition listed : ℕ) where
-  -- Edition 2 has its list behind one byte count
-  pub sections-listed : edition ≡ 2 → record { first = 8; count = listed } ≡ sectionsFor edition listed
+module _ (edition failed listed : ℕ) where
+  -- Edition 3 has both lists behind one byte count
+  pub sections-third : edition ≡ 3 → record { failed = listFrom 7 failed; wanted = listFrom (8 + failed) listed } ≡ sectionsFor edition failed listed
   unfolding sectionsFor
-  sections-listed two = rw (eq-eqb edition 2 two)
+  sections-third third = rw (eq-eqb edition 3 third)
 
-  -- Any other has none
-  pub sections-unlisted : (edition ≡ 2 → ⊥) → record { first = 7; count = 0 } ≡ sectionsFor edition listed
+  -- Edition 2 has one disk, and the list of symbols behind one byte count
+  pub sections-second : edition ≡ 2 → record { failed = listFrom 5 1; wanted = listFrom 8 listed } ≡ sectionsFor edition failed listed
   unfolding sectionsFor
-  sections-unlisted other = rw (ne-eqb edition 2 other)
+  sections-second second = rw second
+
+  -- Any other has one disk and no list
+  pub sections-other : (edition ≡ 3 → ⊥) → (edition ≡ 2 → ⊥) → record { failed = listFrom 5 1; wanted = listFrom 7 0 } ≡ sectionsFor edition failed listed
+  unfolding sectionsFor
+  sections-other not-third not-second = rw (ne-eqb edition 3 not-third, ne-eqb edition 2 not-second)
+
+  -- All but edition 3 have one disk
+  pub one-failed : eqb edition 3 ≡ false → sectionsFor edition failed listed .failed ≡ listFrom 5 1
+  unfolding sectionsFor
+  one-failed other = rw other
 
   -- A head has 9 bytes or more
-  pub head-from : 9 ≤ headLength (sectionsFor edition listed)
+  pub head-from : 9 ≤ headLength (sectionsFor edition failed listed)
   unfolding sectionsFor
-  head-from = by-edition (eqb edition 2)
+  head-from = by-edition (eqb edition 3) (eqb edition 2)
     where
-      by-edition : (two : Bool) → 9 ≤ headLength (cond two (record { first = 8; count = listed }) (record { first = 7; count = 0 }))
-      by-edition true = omega arith
-      by-edition false = omega arith
+      by-edition : (third second : Bool)
+          → 9 ≤ headLength (cond third (record { failed = listFrom 7 failed; wanted = listFrom (8 + failed) listed }) (record { failed = listFrom 5 1; wanted = cond second (listFrom 8 listed) (listFrom 7 0) }))
+      by-edition true second = omega arith
+      by-edition false true = omega arith
+      by-edition false false = omega arith
 
--- and so has a sheet's
+  -- Lists that one byte counts end early
+  pub sections-small : failed < 256 → listed < 256 → SmallSections (sectionsFor edition failed listed)
+  unfolding sectionsFor
+  sections-small few-failed few-listed = by-edition (eqb edition 3) (eqb edition 2)
+    where
+      by-edition : (third second : Bool)
+          → SmallSections (cond third (record { failed = listFrom 7 failed; wanted = listFrom (8 + failed) listed }) (record { failed = listFrom 5 1; wanted = cond second (listFrom 8 listed) (listFrom 7 0) }))
+      by-edition true second = record { failed-small = omega arith; wanted-small = omega arith }
+      by-edition false true = record { failed-small = omega arith; wanted-small = omega arith }
+      by-edition false false = record { failed-small = omega arith; wanted-small = omega arith }
+
+-- A sheet's head has 9 bytes or more
 pub sheet-head-from : (sheet : List ℕ) → 9 ≤ headLength (sectionsIn sheet)
-sheet-head-from sheet = head-from (getD sheet 1 0) (getD sheet 7 0)
+sheet-head-from sheet = head-from (getD sheet 1 0) (getD sheet 6 0) _
 
 -- ------------------------------------------------------------------
 -- The steps

@@ -1,9 +1,11 @@
 -- Laws of the head as it is written, and of the sheet that the steps behind it make with it. Assumes nothing.
 use mathlib.Core.Path.{_≡_, refl, sym, ap, ap₂, _∙_}
-use mathlib.Core.Bool.{Bool, true, false}
+use mathlib.Core.Bool.{Bool, true, false, cond}
 use mathlib.Core.List.{List, [], _∷_, _++_, append-assoc, append-nil}
 use Prim.Native.Nat.{ℕ, suc, _+_, _-_, _/_, _%_, _≤_, _<_}
+use native.Mathlib.Nat.{add-zero}
 use native.Mathlib.Numerals.{add-one}
+use borrow.Author.Tests.{ne-eqb}
 use native.Mathlib.Omega.{arith}
 use lib.Dec.{eqb}
 use lib.ListN.{length, getD, set, take, drop, length-set, length-append, length-drop, take-append-drop}
@@ -19,81 +21,118 @@ use Rattle.gf2.specs.declared.Step.{Step}
 use Rattle.sheets.specs.Buffers.{atFront}
 use Rattle.sheets.proofs.BufferLaws.{length-atFront, front-grows}
 use Rattle.sheets.proofs.PartLaws.{part-to-end}
-use Rattle.plan_sheets.specs.PlanSheets.{PlanHead, sectionsFor, stepsAt, headLength, stepsLength, sheetLength}
-use Rattle.plan_sheets.specs.InnerPlanSheets.{firstSection, listBytes, sectionsOf, planHead, stepsBytes, planSheet, withSteps, subsetPlan, sourceCount, StepsWritable, Tells, PlanFits}
-use Rattle.plan_sheets.proofs.ReadBackLaws.{stepsAt-sections, length-planHead, length-planSheet}
+use Rattle.plan_sheets.specs.PlanSheets.{PlanHead, firstCount, wantedCountAt, stepsAt, headLength, stepsLength, sheetLength}
+use Rattle.plan_sheets.specs.InnerPlanSheets.{firstNumbers, counted, diskBytes, wantedBytes, sectionsOf, EditionFits, First, Second, Third, planHead, headFor, stepsBytes, planSheet, withSteps, subsetPlan, sourceCount, StepsWritable, Tells, PlanFits}
+use Rattle.plan_sheets.proofs.ReadBackLaws.{length-upToDisks, length-upToLists, length-planHead, length-planSheet}
 use Rattle.plan_sheets.proofs.StepsWrittenLaws.{count-is-sourceCount}
 
 -- ------------------------------------------------------------------
 -- The head
 
--- Seven stores are the first section
-pub section-stored : (head : PlanHead) (buffer : List ℕ) → 7 ≤ length buffer → sets buffer 0 (firstSection head) ≡ atFront (firstSection head) buffer
-section-stored head buffer room = sets-eq (firstSection head) buffer 0 room
+-- Five stores are the first numbers
+pub numbers-stored : (head : PlanHead) (buffer : List ℕ) → 5 ≤ length buffer → sets buffer 0 (firstNumbers head) ≡ atFront (firstNumbers head) buffer
+numbers-stored head buffer room = sets-eq (firstNumbers head) buffer 0 room
 
--- A buffer with the count of a list and its first entries stored
-abbrev pub withEntries : List ℕ → List ℕ → ℕ → List ℕ
-withEntries list buffer stored = paste (set buffer 7 (length list)) 8 list stored
+-- A buffer with the count of a list at a place and its first entries behind it
+abbrev pub withEntries : List ℕ → ℕ → List ℕ → ℕ → List ℕ
+withEntries list at buffer stored = paste (set buffer at (length list)) (at + 1) list stored
 
-module _ (list buffer : List ℕ) (room : 8 + length list ≤ length buffer) where
+module _ (list : List ℕ) (at : ℕ) (buffer : List ℕ) (room : at + 1 + length list ≤ length buffer) where
   -- It keeps its length
-  pub length-withEntries : {written : List ℕ} {stored : ℕ} → stored ≤ length list → written ≡ withEntries list buffer stored → length written ≡ length buffer
+  pub length-withEntries : {written : List ℕ} {stored : ℕ} → stored ≤ length list → written ≡ withEntries list at buffer stored → length written ≡ length buffer
   length-withEntries {stored = stored} h e =
-      let counted = length-set buffer 7 (length list) in
-      ap length e ∙ length-paste (set buffer 7 (length list)) 8 list stored (omega (arith, counted)) h ∙ counted
+      let first = length-set buffer at (length list) in
+      ap length e ∙ length-paste (set buffer at (length list)) (at + 1) list stored (omega (arith, first)) h ∙ first
 
   -- One entry more is stored
-  pub withEntries-next : {written : List ℕ} {i : ℕ} → i < length list → written ≡ withEntries list buffer i
-      → set written (8 + i) (getD list i 0) ≡ withEntries list buffer (i + 1)
+  pub withEntries-next : {written : List ℕ} {i : ℕ} → i < length list → written ≡ withEntries list at buffer i
+      → set written (at + 1 + i) (getD list i 0) ≡ withEntries list at buffer (i + 1)
   withEntries-next {written} {i} h e =
-      stored-more (set buffer 7 (length list)) list 8 (omega (arith, length-set buffer 7 (length list))) written i (getD list i 0) h e refl
+      stored-more (set buffer at (length list)) list (at + 1) (omega (arith, length-set buffer at (length list))) written i (getD list i 0) h e refl
 
-  -- All are: the count and the list stand behind the first section
-  withEntries-all : withEntries list buffer (length list) ≡ take 7 buffer ++ (length list ∷ list) ++ drop (8 + length list) buffer
-  withEntries-all =
-      ap₂ (λ (a b : List ℕ). a ++ b ++ drop (8 + length list) (set buffer 7 (length list))) (take-suc-set buffer 7 (length list) (omega arith)) (take-length list)
-      ∙ ap₂ (λ (a b : List ℕ). a ++ b) (append-assoc (take 7 buffer) (length list ∷ []) list) (drop-set-lt (8 + length list) buffer 7 (length list) (omega arith))
-
-module _ (edition : ℕ) (list : List ℕ) where
-  -- Edition 2 has its list behind one byte count
-  pub stepsAt-listed : eqb edition 2 ≡ true → stepsAt (sectionsOf edition list) ≡ 8 + length list
-  unfolding sectionsFor
-  stepsAt-listed two = rw two
-
-  -- A buffer with the list of another edition is as it was
-  pub no-list-stored : (buffer : List ℕ) → eqb edition 2 ≡ false → buffer ≡ take 7 buffer ++ listBytes edition list ++ drop (stepsAt (sectionsOf edition list)) buffer
-  unfolding sectionsFor
-  no-list-stored buffer other =
-      rw other (sym (ap (λ (b : List ℕ). b ++ drop 7 buffer) (append-nil (take 7 buffer)) ∙ take-append-drop 7 buffer))
-
-  -- One with all entries of edition 2's list has the list
-  pub list-stored : (buffer : List ℕ) → eqb edition 2 ≡ true → 8 + length list ≤ length buffer
-      → {written : List ℕ} {i : ℕ} → written ≡ withEntries list buffer i → i ≡ length list
-      → written ≡ take 7 buffer ++ listBytes edition list ++ drop (stepsAt (sectionsOf edition list)) buffer
-  list-stored buffer two room e all =
-      let is-list : (length list ∷ list) ≡ listBytes edition list = rw two in
+  -- All are: the count and the list stand there
+  pub list-stored : {written : List ℕ} {i : ℕ} → written ≡ withEntries list at buffer i → i ≡ length list
+      → written ≡ take at buffer ++ counted list ++ drop (at + 1 + length list) buffer
+  list-stored e all =
       e
-      ∙ ap (withEntries list buffer) all
-      ∙ withEntries-all list buffer room
-      ∙ ap₂ (λ (b : List ℕ) (n : ℕ). take 7 buffer ++ b ++ drop n buffer) is-list (sym (stepsAt-listed two))
+      ∙ ap (withEntries list at buffer) all
+      ∙ ap₂ (λ (a b : List ℕ). a ++ b ++ drop (at + 1 + length list) (set buffer at (length list)))
+      (ap (λ (n : ℕ). take n (set buffer at (length list))) (add-one at) ∙ take-suc-set buffer at (length list) (omega arith)) (take-length list)
+      ∙ ap₂ (λ (a b : List ℕ). a ++ b) (append-assoc (take at buffer) (length list ∷ []) list) (drop-set-lt (at + 1 + length list) buffer at (length list) (omega arith))
 
--- The first section, the list and the step count are the head
-pub head-stored : (head : PlanHead) (list : List ℕ) (steps : ℕ) (lent : List ℕ) → headLength (sectionsOf (head .edition) list) ≤ length lent
-    → {first second : List ℕ} {at : ℕ} → first ≡ atFront (firstSection head) lent → at ≡ stepsAt (sectionsOf (head .edition) list)
-    → second ≡ take 7 first ++ listBytes (head .edition) list ++ drop (stepsAt (sectionsOf (head .edition) list)) first
-    → set (set second at (steps % 256)) (at + 1) (steps / 256) ≡ atFront (planHead head list steps) lent
+module _ (edition reads : ℕ) (failed buffer : List ℕ) where
+  -- Edition 3 has room for its list of disks
+  pub room-third : edition ≡ 3 → 5 + length (diskBytes edition reads failed) ≡ 7 + length failed
+  room-third e = rw e (omega arith)
+
+  -- Editions 1 and 2 have two bytes
+  pub room-one : (edition ≡ 3 → ⊥) → _≡_ {A = ℕ} (5 + length (diskBytes edition reads failed)) 7
+  room-one other = rw (ne-eqb edition 3 other)
+
+  -- Edition 3: the read count is stored, then the list of disks
+  pub disks-stored-third : edition ≡ 3 → 5 + length (diskBytes edition reads failed) ≤ length buffer → {written : List ℕ}
+      → written ≡ take 6 (set buffer 5 reads) ++ counted failed ++ drop (6 + 1 + length failed) (set buffer 5 reads)
+      → written ≡ take 5 buffer ++ diskBytes edition reads failed ++ drop (5 + length (diskBytes edition reads failed)) buffer
+  disks-stored-third e room f =
+      let is-third : (reads ∷ counted failed) ≡ diskBytes edition reads failed = rw e in
+      let size : 6 + 1 + length failed ≡ 5 + length (reads ∷ counted failed) = omega arith in
+      let long : 6 ≤ length buffer = omega (arith, room, ap {B = ℕ} length is-third) in
+      f
+      ∙ ap₂ (λ (a b : List ℕ). a ++ counted failed ++ b) (take-suc-set buffer 5 reads (omega arith)) (drop-set-lt (6 + 1 + length failed) buffer 5 reads (omega arith))
+      ∙ ap₂ (λ (a : List ℕ) (n : ℕ). a ++ drop n buffer) (append-assoc (take 5 buffer) (reads ∷ []) (counted failed)) size
+      ∙ ap (λ (b : List ℕ). take 5 buffer ++ b ++ drop (5 + length b) buffer) is-third
+
+  -- Editions 1 and 2: the disk, then the read count
+  pub disks-stored-one : (edition ≡ 3 → ⊥) → 5 + length (diskBytes edition reads failed) ≤ length buffer → {disk : ℕ} → disk ≡ getD failed 0 0
+      → set (set buffer 5 disk) 6 reads ≡ take 5 buffer ++ diskBytes edition reads failed ++ drop (5 + length (diskBytes edition reads failed)) buffer
+  disks-stored-one other room {disk} disk-is =
+      let is-one : (getD failed 0 0 ∷ reads ∷ []) ≡ diskBytes edition reads failed = rw (ne-eqb edition 3 other) in
+      ap (λ (d : ℕ). set (set buffer 5 d) 6 reads) disk-is
+      ∙ sets-eq (getD failed 0 0 ∷ reads ∷ []) buffer 5 (omega (arith, room, ap {B = ℕ} length is-one))
+      ∙ ap (λ (b : List ℕ). take 5 buffer ++ b ++ drop (5 + length b) buffer) is-one
+
+-- The wanted symbols have room behind their number
+pub room-wanted : (edition : ℕ) (wanted : List ℕ) → (edition ≡ 1 → ⊥) → length (wantedBytes edition wanted) ≡ 1 + length wanted
+room-wanted edition wanted other = rw (ne-eqb edition 1 other) (omega arith)
+
+module _ (edition : ℕ) (wanted : List ℕ) (at : ℕ) (buffer : List ℕ) where
+  -- Edition 1 has no list: the buffer is as it was
+  pub wanted-stored-none : edition ≡ 1 → buffer ≡ take at buffer ++ wantedBytes edition wanted ++ drop (at + length (wantedBytes edition wanted)) buffer
+  wanted-stored-none e =
+      rw e (sym (ap₂ (λ (b : List ℕ) (n : ℕ). b ++ drop n buffer) (append-nil (take at buffer)) (add-zero at) ∙ take-append-drop at buffer))
+
+  -- Any other has the list
+  pub wanted-stored : (edition ≡ 1 → ⊥) → {written : List ℕ} → written ≡ take at buffer ++ counted wanted ++ drop (at + 1 + length wanted) buffer
+      → written ≡ take at buffer ++ wantedBytes edition wanted ++ drop (at + length (wantedBytes edition wanted)) buffer
+  wanted-stored other e =
+      let is-listed : counted wanted ≡ wantedBytes edition wanted = rw (ne-eqb edition 1 other) in
+      let size : at + 1 + length wanted ≡ at + length (counted wanted) = omega arith in
+      e
+      ∙ ap (λ (n : ℕ). take at buffer ++ counted wanted ++ drop n buffer) size
+      ∙ ap (λ (b : List ℕ). take at buffer ++ b ++ drop (at + length b) buffer) is-listed
+
+-- The numbers, the disks, the wanted symbols and the step count are the head
+pub head-stored : (head : PlanHead) (failed wanted : List ℕ) (steps : ℕ) (lent : List ℕ) → EditionFits (head .edition) failed wanted
+    → headLength (sectionsOf (head .edition) failed wanted) ≤ length lent
+    → {first second third : List ℕ} {listed at : ℕ} → first ≡ atFront (firstNumbers head) lent
+    → second ≡ take 5 first ++ diskBytes (head .edition) (head .reads) failed ++ drop (5 + length (diskBytes (head .edition) (head .reads) failed)) first
+    → listed ≡ wantedCountAt (head .edition) (length failed)
+    → third ≡ take listed second ++ wantedBytes (head .edition) wanted ++ drop (listed + length (wantedBytes (head .edition) wanted)) second
+    → at ≡ stepsAt (sectionsOf (head .edition) failed wanted)
+    → set (set third at (steps % 256)) (at + 1) (steps / 256) ≡ atFront (planHead head failed wanted steps) lent
 unfolding planHead
-head-stored head list steps lent room {first} {second} {at} e place f =
-    let listed = listBytes (head .edition) list in
-    let front = firstSection head ++ listed in
-    let counted = steps % 256 ∷ steps / 256 ∷ [] in
-    let behind = stepsAt-sections (head .edition) list in
-    let grown : second ≡ atFront front lent =
-    front-grows (firstSection head) listed lent e (f ∙ ap (λ (n : ℕ). take 7 first ++ listed ++ drop n first) behind) in
-    let long : at ≡ length front = omega (arith, place, behind, length-append (firstSection head) listed) in
-    let whole = ap {B = ℕ} length grown ∙ length-atFront front lent (omega (arith, long, place)) in
-    ap₂ (λ (m n : ℕ). set (set second m (steps % 256)) n (steps / 256)) long (add-one at ∙ ap suc long)
-    ∙ front-grows front counted lent grown (sets-eq counted second (length front) (omega (arith, whole, long, place)))
+head-stored head failed wanted steps lent fits room {first} {second} {third} {listed} {at} e f listed-is g place =
+    let disks = diskBytes (head .edition) (head .reads) failed in
+    let symbols = wantedBytes (head .edition) wanted in
+    let last = steps % 256 ∷ steps / 256 ∷ [] in
+    let grown : second ≡ atFront (firstNumbers head ++ disks) lent = front-grows (firstNumbers head) disks lent e f in
+    let behind : listed ≡ length (firstNumbers head ++ disks) = listed-is ∙ sym (length-upToDisks head failed wanted fits) in
+    let grown-more : third ≡ atFront (firstNumbers head ++ disks ++ symbols) lent =
+    front-grows (firstNumbers head ++ disks) symbols lent grown (g ∙ ap (λ (n : ℕ). take n second ++ symbols ++ drop (n + length symbols) second) behind) in
+    let long : at ≡ length (firstNumbers head ++ disks ++ symbols) = place ∙ sym (length-upToLists head failed wanted fits) in
+    let whole = ap {B = ℕ} length grown-more ∙ length-atFront (firstNumbers head ++ disks ++ symbols) lent (omega (arith, long, place)) in
+    ap₂ (λ (m n : ℕ). set (set third m (steps % 256)) n (steps / 256)) long (add-one at ∙ ap suc long)
+    ∙ front-grows (firstNumbers head ++ disks ++ symbols) last lent grown-more (sets-eq last third (length (firstNumbers head ++ disks ++ symbols)) (omega (arith, whole, long, place)))
 
 -- ------------------------------------------------------------------
 -- The sheet
@@ -106,23 +145,23 @@ part-stored lent start within {plan = plan} e same =
     ap₂ (λ (a b : List ℕ). take start lent ++ (a ++ b)) (e ∙ ap₂ (λ (b : List ℕ) (p : List Step). withSteps b 0 p) (part-to-end lent start) same) (post-is start (length lent) lent within ∙ drop-length lent)
     ∙ ap (λ (b : List ℕ). take start lent ++ b) (append-nil (withSteps (drop start lent) 0 plan))
 
-module _ (head : PlanHead) (list : List ℕ) (plan : List Step) {start steps : ℕ} (place : start ≡ headLength (sectionsOf (head .edition) list)) (counted : steps ≡ length plan) where
+module _ (head : PlanHead) (failed wanted : List ℕ) (fits : EditionFits (head .edition) failed wanted) (plan : List Step) {start steps : ℕ} (place : start ≡ headLength (sectionsOf (head .edition) failed wanted)) (steps-are : steps ≡ length plan) where
   -- The sheet's length, by the number of its steps
-  pub length-stored : {size : ℕ} → size ≡ sheetLength (sectionsOf (head .edition) list) steps → size ≡ length (planSheet head list plan)
-  length-stored e = omega (arith, e, counted, length-planSheet head list plan)
+  pub length-stored : {size : ℕ} → size ≡ sheetLength (sectionsOf (head .edition) failed wanted) steps → size ≡ length (planSheet head failed wanted plan)
+  length-stored e = omega (arith, e, steps-are, length-planSheet head failed wanted fits plan)
 
   -- The steps behind the head's place, and then the head in front of them, are the sheet
-  pub sheet-stored : (lent : List ℕ) → headLength (sectionsOf (head .edition) list) ≤ length lent → {written buffer : List ℕ}
-      → written ≡ take start lent ++ withSteps (drop start lent) 0 plan → buffer ≡ atFront (planHead head list steps) written
-      → buffer ≡ atFront (planSheet head list plan) lent
+  pub sheet-stored : (lent : List ℕ) → headLength (sectionsOf (head .edition) failed wanted) ≤ length lent → {written buffer : List ℕ}
+      → written ≡ take start lent ++ withSteps (drop start lent) 0 plan → buffer ≡ atFront (planHead head failed wanted steps) written
+      → buffer ≡ atFront (planSheet head failed wanted plan) lent
   unfolding planSheet withSteps
   sheet-stored lent room {written} {buffer} e g =
-      let front = planHead head list (length plan) in
+      let front = planHead head failed wanted (length plan) in
       let behind = drop (stepsLength (0 + length plan)) (drop start lent) in
-      let long : start ≡ length front = place ∙ sym (length-planHead head list (length plan)) in
-      let whole : start + stepsLength (0 + length plan) ≡ length (front ++ stepsBytes plan) = omega (arith, place, length-planSheet head list plan) in
+      let long : start ≡ length front = place ∙ sym (length-planHead head failed wanted fits (length plan)) in
+      let whole : start + stepsLength (0 + length plan) ≡ length (front ++ stepsBytes plan) = omega (arith, place, length-planSheet head failed wanted fits plan) in
       g
-      ∙ ap₂ (λ (n : ℕ) (b : List ℕ). atFront (planHead head list n) b) counted e
+      ∙ ap₂ (λ (n : ℕ) (b : List ℕ). atFront (planHead head failed wanted n) b) steps-are e
       ∙ ap (λ (b : List ℕ). front ++ b) (drop-at (take start lent) (stepsBytes plan ++ behind) (length front) (length-take-le start lent (omega (arith, place, room)) ∙ long))
       ∙ sym (append-assoc front (stepsBytes plan) behind)
       ∙ ap (λ (b : List ℕ). front ++ stepsBytes plan ++ b) (drop-drop (stepsLength (0 + length plan)) start lent ∙ ap (λ (n : ℕ). drop n lent) whole)
@@ -132,13 +171,13 @@ module _ (head : PlanHead) (list : List ℕ) (plan : List Step) {start steps : �
 
 module _ (layout : Layout) (wanted : ℕ → Bool) (subsets : List ℕ) {symbols : ℕ} (symbols-is : symbols ≡ symbolsOf layout) where
   -- What writing the sheet needs is enough for its steps
-  pub steps-writable : {edition dataSymbols disk start : ℕ} {list : List ℕ} (lent : List ℕ) → PlanFits edition layout dataSymbols disk list wanted subsets (length lent)
-      → start ≡ headLength (sectionsOf edition list) → StepsWritable subsets symbols wanted (length (take (length lent - start) (drop start lent)))
+  pub steps-writable : {edition dataSymbols start : ℕ} {failed list : List ℕ} (lent : List ℕ) → PlanFits edition layout dataSymbols failed list wanted subsets (length lent)
+      → start ≡ headLength (sectionsOf edition failed list) → StepsWritable subsets symbols wanted (length (take (length lent - start) (drop start lent)))
   steps-writable {start = start} lent fits place =
       let same = ap {B = ℕ} (λ (n : ℕ). length (subsetPlan n wanted subsets)) symbols-is in
       let long = ap {B = ℕ} length (part-to-end lent start) in
       record {
-        symbols-to = omega (arith, fits .disk-within .symbols-to, symbols-is);
+        symbols-to = omega (arith, fits .layout-within .symbols-to, symbols-is);
         subsets-below = λ t. rw symbols-is (fits .subsets-below t);
         fits = record { steps-fit = omega (arith, fits .steps-fit, same); room = omega (arith, fits .room, same, place, long, length-drop start lent) };
       }
@@ -158,3 +197,28 @@ module _ (layout : Layout) (wanted : ℕ → Bool) (subsets : List ℕ) {symbols
     -- which are no more than a set has
     pub few-reads : {reads : ℕ} → reads ≡ count sources → symbols ≤ setWidth → reads ≤ setWidth
     few-reads e small = omega (arith, count-le symbols sources (told .sources-below))
+
+-- A head with the first number of its edition is the head for a code
+pub first-number : (edition : ℕ) (layout : Layout) (dataSymbols reads : ℕ) (failed wanted : List ℕ) (steps : ℕ) (written : List ℕ) {first : ℕ} {buffer : List ℕ} → first ≡ firstCount edition
+    → buffer ≡ atFront (planHead (record { count = first; edition = edition; disks = layout .disks; height = layout .height; data_symbols = dataSymbols; reads = reads }) failed wanted steps) written
+    → buffer ≡ atFront (planHead (headFor edition layout dataSymbols reads) failed wanted steps) written
+first-number edition layout dataSymbols reads failed wanted steps written e f =
+    f
+    ∙ ap
+    (λ (n : ℕ).
+    atFront (planHead (record { count = n; edition = edition; disks = layout .disks; height = layout .height; data_symbols = dataSymbols; reads = reads }) failed wanted steps) written)
+    e
+
+-- The first byte is one
+pub first-count-small : (edition : ℕ) → firstCount edition < 256
+first-count-small edition = by-edition (eqb edition 3)
+  where
+    by-edition : (third : Bool) → cond third 5 6 < 256
+    by-edition true = omega arith
+    by-edition false = omega arith
+
+-- So is an edition that fits
+pub edition-small : {edition : ℕ} {failed wanted : List ℕ} → EditionFits edition failed wanted → edition < 256
+edition-small (First e one none) = omega (arith, e)
+edition-small (Second e one) = omega (arith, e)
+edition-small (Third e) = omega (arith, e)

@@ -2,60 +2,72 @@
 use mathlib.Core.Path.{_≡_}
 use mathlib.Core.Bool.{Bool, cond}
 use mathlib.Core.List.{List, [], _∷_, _++_}
-use mathlib.Core.Logic.{_⊎_}
 use Prim.Native.Nat.{ℕ, _+_, _/_, _%_, _^_, _≤_, _<_}
 use lib.Dec.{eqb}
 use lib.ListN.{length, getD, take, drop}
 use Rattle.bits.specs.BitSets.{has}
 use Rattle.bits.specs.Lists.{symbolsIn, countFrom}
 use Rattle.bits.specs.Numerals.{setWidth}
-use Rattle.codes.specs.Codes.{DiskWithin}
+use Rattle.codes.specs.Codes.{LayoutWithin}
 use Rattle.codes.specs.Layouts.{symbolsOf}
 use Rattle.codes.specs.declared.Layout.{Layout}
 use Rattle.gf2.specs.InnerSubsetPlans.{planOf}
 use Rattle.gf2.specs.Plans.{readByAny}
 use Rattle.gf2.specs.declared.Step.{Step}
 use Rattle.gf2.specs.declared.Step.the-variants.{Clear, Copy, Add}
-use Rattle.plan_sheets.specs.PlanSheets.{PlanHead, Sections, sectionsFor, stepsAt, headLength, stepsLength, sheetLength}
+use Rattle.plan_sheets.specs.PlanSheets.{PlanHead, ListPlace, Sections, firstCount, sectionsFor, headLength, stepsLength, sheetLength}
 
 -- ------------------------------------------------------------------
 -- The head
 
--- The first section: one byte 6, then edition, n, r, K, failed disk, read count
-abbrev pub firstSection : PlanHead → List ℕ
-firstSection head =
-    head .count ∷ head .edition ∷ head .disks ∷ head .height ∷ head .data_symbols ∷ head .disk ∷ head .reads ∷ []
+-- The first numbers: 6 or 5, edition, n, r, K
+abbrev pub firstNumbers : PlanHead → List ℕ
+firstNumbers head = head .count ∷ head .edition ∷ head .disks ∷ head .height ∷ head .data_symbols ∷ []
 
--- The list of wanted symbols: one byte count and that many symbols in edition 2, none in edition 1
-abbrev pub listBytes : ℕ → List ℕ → List ℕ
-listBytes edition list = cond (eqb edition 2) (length list ∷ list) []
+-- A list: one byte count and that many entries
+abbrev pub counted : List ℕ → List ℕ
+counted list = length list ∷ list
 
--- Where the list lies
-abbrev pub sectionsOf : ℕ → List ℕ → Sections
-sectionsOf edition list = sectionsFor edition (length list)
+-- The failed disk and the read count; in edition 3 the read count and the list of disks
+abbrev pub diskBytes : ℕ → ℕ → List ℕ → List ℕ
+diskBytes edition reads failed = cond (eqb edition 3) (reads ∷ counted failed) (getD failed 0 0 ∷ reads ∷ [])
 
--- A list that one byte counts
-abbrev pub SmallSections : Sections → Type 0
-SmallSections sections = stepsAt sections < 264
+-- The list of wanted symbols, which edition 1 does not have
+abbrev pub wantedBytes : ℕ → List ℕ → List ℕ
+wantedBytes edition wanted = cond (eqb edition 1) [] (counted wanted)
 
--- Editions 1, which has no list, and 2
-abbrev pub EditionFits : ℕ → List ℕ → Type 0
-EditionFits edition list = ((edition ≡ 1) × (list ≡ [])) ⊎ (edition ≡ 2)
+-- Where the lists lie
+abbrev pub sectionsOf : ℕ → List ℕ → List ℕ → Sections
+sectionsOf edition failed wanted = sectionsFor edition (length failed) (length wanted)
+
+-- A list that ends within two lists that one byte counts
+abbrev pub SmallPlace : ListPlace → Type 0
+SmallPlace place = place .first + place .count < 519
+
+pub record SmallSections (sections : Sections) : Type 0 where
+  pub failed-small : SmallPlace (sections .failed)
+  pub wanted-small : SmallPlace (sections .wanted)
+
+-- Editions 1, which lists no symbols, and 2, both of one disk, and 3
+pub data EditionFits (edition : ℕ) (failed wanted : List ℕ) : Type 0 where
+  First : edition ≡ 1 → length failed ≡ 1 → wanted ≡ [] → EditionFits edition failed wanted
+  Second : edition ≡ 2 → length failed ≡ 1 → EditionFits edition failed wanted
+  Third : edition ≡ 3 → EditionFits edition failed wanted
 
 -- The head of a sheet of so many steps
-unfoldable pub planHead : PlanHead → List ℕ → ℕ → List ℕ
-planHead head list steps = firstSection head ++ listBytes (head .edition) list ++ (steps % 256 ∷ steps / 256 ∷ [])
+unfoldable pub planHead : PlanHead → List ℕ → List ℕ → ℕ → List ℕ
+planHead head failed wanted steps =
+    firstNumbers head ++ diskBytes (head .edition) (head .reads) failed ++ wantedBytes (head .edition) wanted ++ (steps % 256 ∷ steps / 256 ∷ [])
 
--- The head of a plan for a code and a failed disk
-abbrev pub headFor : ℕ → Layout → ℕ → ℕ → ℕ → PlanHead
-headFor edition layout dataSymbols disk reads =
+-- The head of a plan for a code
+abbrev pub headFor : ℕ → Layout → ℕ → ℕ → PlanHead
+headFor edition layout dataSymbols reads =
     record {
-      count = 6;
+      count = firstCount edition;
       edition = edition;
       disks = layout .disks;
       height = layout .height;
       data_symbols = dataSymbols;
-      disk = disk;
       reads = reads;
     }
 
@@ -66,15 +78,16 @@ pub record HeadOfBytes (head : PlanHead) : Type 0 where
   pub disks-to : head .disks < 256
   pub height-to : head .height < 256
   pub data-to : head .data_symbols < 256
-  pub disk-to : head .disk < 256
   pub reads-to : head .reads < 256
 
--- What writing a head needs: numbers of one byte, and room
-pub record HeadWritable (head : PlanHead) (list : List ℕ) (steps bufferLength : ℕ) : Type 0 where
+-- What writing a head needs: a known edition, numbers of one byte, and room
+pub record HeadWritable (head : PlanHead) (failed wanted : List ℕ) (steps bufferLength : ℕ) : Type 0 where
+  pub edition-fits : EditionFits (head .edition) failed wanted
   pub numbers-to : HeadOfBytes head
-  pub list-to : length list < 256
+  pub failed-to : length failed < 256
+  pub wanted-to : length wanted < 256
   pub steps-to : steps ≤ 1024
-  pub room : headLength (sectionsOf (head .edition) list) ≤ bufferLength
+  pub room : headLength (sectionsOf (head .edition) failed wanted) ≤ bufferLength
 
 -- ------------------------------------------------------------------
 -- The steps
@@ -91,8 +104,8 @@ stepsBytes [] = []
 stepsBytes (step ∷ steps) = stepBytes step ++ stepsBytes steps
 
 -- The sheet of a plan
-unfoldable pub planSheet : PlanHead → List ℕ → List Step → List ℕ
-planSheet head list steps = planHead head list (length steps) ++ stepsBytes steps
+unfoldable pub planSheet : PlanHead → List ℕ → List ℕ → List Step → List ℕ
+planSheet head failed wanted steps = planHead head failed wanted (length steps) ++ stepsBytes steps
 
 -- The part of a buffer behind the head, with steps written from step `number` on; all other bytes stay
 unfoldable pub withSteps : List ℕ → ℕ → List Step → List ℕ
@@ -131,12 +144,14 @@ pub record Tells (symbols : ℕ) (plan : List Step) (count sources : ℕ) : Type
   pub sources-below : sources < 2 ^ symbols
   pub sources-are : (s : ℕ) → has sources s ≡ readByAny s plan
 
--- What writing the sheet needs: an edition, K and a list of bytes, subsets of the array's symbols, and steps that a sheet has room for
-pub record PlanFits (edition : ℕ) (layout : Layout) (dataSymbols disk : ℕ) (list : List ℕ) (wanted : ℕ → Bool) (subsets : List ℕ) (bufferLength : ℕ) : Type 0 where
-  pub edition-to : edition < 256
-  pub disk-within : DiskWithin layout disk
+-- What writing the sheet needs: a layout within the limits, an edition, K and lists of bytes, subsets of the array's symbols, and steps that a sheet
+-- has room for
+pub record PlanFits (edition : ℕ) (layout : Layout) (dataSymbols : ℕ) (failed list : List ℕ) (wanted : ℕ → Bool) (subsets : List ℕ) (bufferLength : ℕ) : Type 0 where
+  pub edition-fits : EditionFits edition failed list
+  pub layout-within : LayoutWithin layout
   pub data-to : dataSymbols < 256
+  pub failed-to : length failed < 256
   pub list-to : length list < 256
   pub subsets-below : (t : ℕ) → getD subsets t 0 < 2 ^ symbolsOf layout
   pub steps-fit : length (subsetPlan (symbolsOf layout) wanted subsets) ≤ 1024
-  pub room : sheetLength (sectionsOf edition list) (length (subsetPlan (symbolsOf layout) wanted subsets)) ≤ bufferLength
+  pub room : sheetLength (sectionsOf edition failed list) (length (subsetPlan (symbolsOf layout) wanted subsets)) ≤ bufferLength

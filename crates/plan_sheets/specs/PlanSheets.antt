@@ -1,5 +1,7 @@
--- The plan sheet (document 01, "The two sheets"; document 02, §3): one byte 6, then edition, n, r, K, failed disk, read count;
--- in edition 2 one byte count and that many wanted symbols; two bytes step count, low byte first, then 3 bytes a step: kind, target, source.
+-- The plan sheet (document 01, "The two sheets"; document 02, §3 and §5).
+-- Editions 1 and 2: one byte 6, then edition, n, r, K, failed disk, read count; in edition 2 one byte count and that many wanted symbols.
+-- Edition 3: one byte 5, then edition, n, r, K, read count; one byte count and that many lost disks; one byte count and that many wanted symbols.
+-- In each then two bytes step count, low byte first, and 3 bytes a step: kind, target, source.
 use mathlib.Core.Bool.{cond}
 use mathlib.Core.List.{List, [], _∷_, map}
 use Prim.Native.Nat.{ℕ, zero, suc, _+_, _*_}
@@ -9,12 +11,14 @@ use Rattle.gf2.specs.declared.Step.{Step}
 use Rattle.gf2.specs.declared.Step.the-variants.{Clear, Copy, Add}
 use Rattle.sheets.specs.Bytes.{twoBytesAt}
 pub use Rattle.plan_sheets.specs.declared.head.PlanHead.{PlanHead}
+pub use Rattle.plan_sheets.specs.declared.head.ListPlace.{ListPlace}
 pub use Rattle.plan_sheets.specs.declared.head.Sections.{Sections}
 pub use Rattle.plan_sheets.specs.declared.step.SheetStep.{SheetStep}
 
 -- What a plan sheet holds; a plan of any length has any number of steps (document 01, "How tight the answers are")
 pub record Plan : Type 0 where
   pub head : PlanHead
+  pub failed : List ℕ
   pub wanted : List ℕ
   pub steps : List SheetStep
 
@@ -29,6 +33,14 @@ stepsOf plan = map stepOf (plan .steps)
 -- ------------------------------------------------------------------
 -- The head
 
+-- The first byte: how many numbers follow in the first section
+abbrev pub firstCount : ℕ → ℕ
+firstCount edition = cond (eqb edition 3) 5 6
+
+-- Where the read count stands: edition 3 has its disks behind it
+abbrev pub readsAt : ℕ → ℕ
+readsAt edition = cond (eqb edition 3) 5 6
+
 -- The first section
 abbrev pub headIn : List ℕ → PlanHead
 headIn sheet =
@@ -38,24 +50,33 @@ headIn sheet =
       disks = getD sheet 2 0;
       height = getD sheet 3 0;
       data_symbols = getD sheet 4 0;
-      disk = getD sheet 5 0;
-      reads = getD sheet 6 0;
+      reads = getD sheet (readsAt (getD sheet 1 0)) 0;
     }
 
--- Where the list of wanted symbols lies: edition 2 has so many listed behind their count, edition 1 has no list
-unfoldable pub sectionsFor : ℕ → ℕ → Sections
-sectionsFor edition listed = cond (eqb edition 2) (record { first = 8; count = listed }) (record { first = 7; count = 0 })
+-- Where a list of bytes lies: its first entry and their number
+abbrev pub listFrom : ℕ → ℕ → ListPlace
+listFrom first count = record { first = first; count = count }
+
+-- Where the lists of failed disks and of wanted symbols lie, for so many of each. Editions 1 and 2 have one disk, and edition 1 lists no symbols
+unfoldable pub sectionsFor : ℕ → ℕ → ℕ → Sections
+sectionsFor edition failed listed =
+    cond (eqb edition 3) (record { failed = listFrom 7 failed; wanted = listFrom (8 + failed) listed })
+    (record { failed = listFrom 5 1; wanted = cond (eqb edition 2) (listFrom 8 listed) (listFrom 7 0) })
+
+-- Where the number of wanted symbols stands: in edition 3 behind the list of disks
+abbrev pub wantedCountAt : ℕ → ℕ → ℕ
+wantedCountAt edition failed = cond (eqb edition 3) (7 + failed) 7
 
 abbrev pub sectionsIn : List ℕ → Sections
-sectionsIn sheet = sectionsFor (getD sheet 1 0) (getD sheet 7 0)
+sectionsIn sheet = sectionsFor (getD sheet 1 0) (getD sheet 6 0) (getD sheet (wantedCountAt (getD sheet 1 0) (getD sheet 6 0)) 0)
 
--- The wanted symbols, as far as the sheet goes
-abbrev pub wantedAt : Sections → List ℕ → List ℕ
-wantedAt sections sheet = take (sections .count) (drop (sections .first) sheet)
+-- A list, as far as the sheet goes
+abbrev pub listAt : ListPlace → List ℕ → List ℕ
+listAt place sheet = take (place .count) (drop (place .first) sheet)
 
--- The step count stands behind the list, and the steps behind the step count
+-- The step count stands behind the lists, and the steps behind the step count
 abbrev pub stepsAt : Sections → ℕ
-stepsAt sections = sections .first + sections .count
+stepsAt sections = sections .wanted .first + sections .wanted .count
 
 abbrev pub headLength : Sections → ℕ
 headLength sections = stepsAt sections + 2
@@ -97,6 +118,7 @@ abbrev pub planIn : List ℕ → Plan
 planIn sheet =
     record {
       head = headIn sheet;
-      wanted = wantedAt (sectionsIn sheet) sheet;
+      failed = listAt (sectionsIn sheet .failed) sheet;
+      wanted = listAt (sectionsIn sheet .wanted) sheet;
       steps = sheetSteps (stepCount sheet) (drop (headLength (sectionsIn sheet)) sheet);
     }

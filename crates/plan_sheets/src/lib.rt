@@ -9,6 +9,7 @@ ghost use Rattle.bits.specs.Numerals.{setWidth, numeral, numerals};
 ghost use Rattle.codes.specs.Layouts.{symbolsOf};
 ghost use Rattle.gf2.specs.InnerSubsetPlans.{fillFrom};
 ghost use Rattle.sheets.specs.Buffers.{atFront};
+ghost use Rattle.plan_sheets.specs.PlanSheets.{firstCount};
 ghost use Rattle.plan_sheets.specs.InnerPlanSheets.{planSheet, headFor, withSteps, StepsFit, subsetPlan, sourceCount, StepsWritable, Tells, PlanFits};
 
 pub mod head;
@@ -104,38 +105,47 @@ fn write_steps(subsets: BitSets, symbols: usize, wanted: BitSet, buffer: &mut [u
     }
 }
 
+// The first byte of a sheet: how many numbers follow in its first section.
+fn first_count(edition: usize) -> usize
+    ensures { λ r. ⌜ r ≡ firstCount edition ⌝ }
+{
+    if edition == 3 {
+        return 5;
+    }
+    6
+}
+
 // The sheet at the front of the buffer: the steps first, as the head tells their number; bytes behind the sheet stay.
 pub fn write_plan(
     edition: usize,
     layout: Layout,
     data_symbols: usize,
-    disk: usize,
+    failed: &[u8],
     list: &[u8],
     wanted: BitSet,
     subsets: BitSets,
     buffer: &mut [u8],
 ) -> Written
-    requires { ⌜ PlanFits edition layout «data_symbols» disk (now list) (has (numeral wanted)) (numerals subsets) (length (now buffer)) ⌝ }
+    requires { ⌜ PlanFits edition layout «data_symbols» (now failed) (now list) (has (numeral wanted)) (numerals subsets) (length (now buffer)) ⌝ }
     ensures reads { λ r. ⌜ r .reads ≡ sourceCount (symbolsOf layout) (subsetPlan (symbolsOf layout) (has (numeral wanted)) (numerals subsets)) ⌝ }
-    ensures length { λ r. ⌜ r .length ≡ length (planSheet (headFor edition layout «data_symbols» disk (r .reads)) (now (list .entry)) (subsetPlan (symbolsOf layout) (has (numeral wanted)) (numerals subsets))) ⌝ }
-    ensures buffer { λ r. ⌜ now (buffer .exit) ≡ atFront (planSheet (headFor edition layout «data_symbols» disk (r .reads)) (now (list .entry)) (subsetPlan (symbolsOf layout) (has (numeral wanted)) (numerals subsets))) (now (buffer .entry)) ⌝ }
+    ensures length { λ r. ⌜ r .length ≡ length (planSheet (headFor edition layout «data_symbols» (r .reads)) (now (failed .entry)) (now (list .entry)) (subsetPlan (symbolsOf layout) (has (numeral wanted)) (numerals subsets))) ⌝ }
+    ensures buffer { λ r. ⌜ now (buffer .exit) ≡ atFront (planSheet (headFor edition layout «data_symbols» (r .reads)) (now (failed .entry)) (now (list .entry)) (subsetPlan (symbolsOf layout) (has (numeral wanted)) (numerals subsets))) (now (buffer .entry)) ⌝ }
 {
     let symbols = layout.symbols();
-    let sections = sections_for(edition, list.len());
+    let sections = sections_for(edition, failed.len(), list.len());
     let start = head_length(sections);
     let steps = write_steps(subsets, symbols, wanted, &mut buffer[start..]);
     let number = steps.count;
     let reads = count(steps.sources);
     let head = PlanHead {
-        count: 6,
+        count: first_count(edition),
         edition,
         disks: layout.disks,
         height: layout.height,
         data_symbols,
-        disk,
         reads,
     };
-    write_head(head, list, number, buffer);
+    write_head(head, failed, list, number, buffer);
     Written {
         length: sheet_length(sections, number),
         reads,

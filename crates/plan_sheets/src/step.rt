@@ -7,7 +7,6 @@ ghost use Rattle.gf2.specs.Plans.{NamesBelow};
 ghost use Rattle.plan_sheets.specs.PlanSheets.{stepOf, stepsLength, stepAt};
 ghost use Rattle.plan_sheets.specs.InnerPlanSheets.{withSteps, StepsFit};
 use gf2::Step;
-use sheets::byte_at;
 
 // A step as a sheet has it.
 pub struct SheetStep {
@@ -16,16 +15,16 @@ pub struct SheetStep {
     pub source: usize,
 }
 
-// Step `number` of the part of a sheet that has its steps.
+// Step `number` of the part of a sheet that has its steps: all its bytes are there.
 pub fn step_at(steps: &[u8], number: usize) -> SheetStep
-    requires { ⌜ number < 65536 ⌝ }
+    requires { ⌜ (number < 1024) × (stepsLength (number + 1) ≤ length (now steps)) ⌝ }
     ensures { λ r. ⌜ r ≡ stepAt (now (steps .entry)) number ⌝ }
 {
     let at = 3 * number;
     SheetStep {
-        kind: byte_at(steps, at),
-        target: byte_at(steps, at + 1),
-        source: byte_at(steps, at + 2),
+        kind: steps[at] as usize,
+        target: steps[at + 1] as usize,
+        source: steps[at + 2] as usize,
     }
 }
 

@@ -1,13 +1,17 @@
-// A plan for a lost disk, or for those of its symbols that are wanted, or a pattern that shows that there is none: demand 3.
+// A plan for lost disks, or for those of their symbols that are wanted, or a pattern that shows that there is none: demand 3.
 ghost use mathlib.Core.Path.{_≡_};
+ghost use mathlib.Core.Bool.{cond};
 ghost use mathlib.Core.List.{_++_};
+ghost use lib.Dec.{eqb};
 ghost use lib.ListN.{length};
+ghost use Rattle.bits.specs.BitSets.{count};
+ghost use Rattle.bits.specs.Numerals.{numeral};
 ghost use Rattle.codes.specs.Codes.{linear, WithinLimits};
 ghost use Rattle.lists.specs.Lists.{listOrder};
 ghost use Rattle.plans.specs.Judgement.{leastWanted};
 ghost use Rattle.refusals.specs.Orders.{Fine, outcome, andThen, firstOf, outcomeOf};
 ghost use Rattle.refusals.specs.Refusals.{_at_};
-ghost use Rattle.planner.specs.Planning.{wholeDisk, listedOn, leastBuffer, roomFaults, planningFaults, planningVerdict, asPlanned, BufferLeft};
+ghost use Rattle.planner.specs.Planning.{wholeDisk, listedOn, listedOnSet, leastBuffer, roomFaults, planningFaults, planningVerdict, asPlanned, BufferLeft};
 ghost use Rattle.planner.specs.Demand3.{Demand3, PlansWhereAnyCould, RulesSayDemand2, Promised};
 ghost use Rattle.planner.specs.InnerWork.{Workable, Worked};
 ghost use Rattle.plan_sheets.specs.InnerPlanSheets.{EditionFits};
@@ -16,12 +20,15 @@ use bits::is_empty;
 use code_sheets::Reading;
 use code_sheets::read_code;
 use codes::Code;
+use lists::disk_byte;
+use lists::disks_test;
 use lists::first_bad;
 use lists::list_test;
 use plan_sheets::write_plan;
-use plans::loss::least_wanted;
-use plans::loss::loss_of_disk;
-use plans::loss::loss_of_plan;
+use plans::bounds::least_wanted;
+use plans::bounds::most_wanted;
+use plans::loss::loss_of;
+use plans::loss::lost_symbols;
 use refusals::Refusal;
 use refusals::Verdict;
 use solve::eliminate_known;
@@ -39,71 +46,73 @@ pub enum Planned {
 fn least_buffer(edition: usize) -> usize
     ensures { λ r. ⌜ r ≡ leastBuffer edition ⌝ }
 {
+    if edition == 3 {
+        return 3210;
+    }
     if edition == 2 {
         return 3114;
     }
     3081
 }
 
-// 23, 34: so many symbols are listed, for a disk of so many rows, and the first bad one is at `bad`.
+// 23, 34: these symbols are lost and so many listed, and the first bad one is at `bad`.
 fn list_and_room_test(
     edition: usize,
-    height: usize,
+    gone: BitSet,
     listed: usize,
     bad: usize,
     buffer_length: usize,
 ) -> Verdict
-    ensures { λ r. ⌜ outcome r ≡ firstOf (listOrder listed (leastWanted edition) height bad (23 at 0) (23 at bad) ++ roomFaults edition «buffer_length») ⌝ }
+    ensures { λ r. ⌜ outcome r ≡ firstOf (listOrder listed (leastWanted edition) (cond (eqb edition 1) 0 (count (numeral gone))) bad (23 at 0) (23 at bad) ++ roomFaults edition «buffer_length») ⌝ }
 {
     let by_count = Refusal::BadWantedList { position: 0 };
     let by_entry = Refusal::BadWantedList { position: bad };
     let least = least_wanted(edition);
+    let most = most_wanted(edition, gone);
     let room = least_buffer(edition);
-    list_test(
-        Verdict::Fine,
-        listed,
-        least,
-        height,
-        bad,
-        by_count,
-        by_entry,
-    ).or_if(buffer_length < room, Refusal::PlanBufferTooShort)
+    list_test(Verdict::Fine, listed, least, most, bad, by_count, by_entry).or_if(
+        buffer_length < room,
+        Refusal::PlanBufferTooShort,
+    )
 }
 
-// 7, 23, 34, behind the verdict on the code sheet.
+// 7, 24, 23, 34, behind the verdict on the code sheet.
 fn plan_test(
     reading: Reading,
     edition: usize,
-    disk: usize,
+    disks: &[u8],
     wanted: &[u8],
     buffer_length: usize,
 ) -> Verdict
     requires { ⌜ (outcome (reading .verdict) ≡ Fine → WithinLimits (linear (reading .code))) ⌝ }
-    ensures { λ r. ⌜ outcome r ≡ andThen (outcome (reading .verdict)) (planningFaults (reading .code .layout) (record { edition = edition; disk = disk; wanted = now (wanted .entry) }) «buffer_length») ⌝ }
+    ensures { λ r. ⌜ outcome r ≡ andThen (outcome (reading .verdict)) (planningFaults (reading .code .layout) (record { edition = edition; disks = now (disks .entry); wanted = now (wanted .entry) }) «buffer_length») ⌝ }
 {
     let read = reading.verdict;
+    let Verdict::Fine = read else {
+        return read;
+    };
     let code = reading.code;
     let layout = code.layout;
-    let disks = layout.disks;
-    let opened = read.or_if(disks <= disk, Refusal::NoSuchDisk);
-    let Verdict::Fine = opened else {
-        return opened;
+    let array_disks = layout.disks;
+    let asked = disks_test(read, array_disks, array_disks, disks);
+    let Verdict::Fine = asked else {
+        return asked;
     };
-    let lost = loss_of_disk(layout, disk);
-    let bad = first_bad(wanted, lost.wanted);
-    let height = layout.height_of(disk);
-    list_and_room_test(edition, height, wanted.len(), bad, buffer_length)
+    let gone = lost_symbols(layout, disks);
+    let bad = first_bad(wanted, gone);
+    list_and_room_test(edition, gone, wanted.len(), bad, buffer_length)
 }
 
 // Elimination over the surviving rows. The sheet is written only when every wanted row is known to have its subset.
-fn plan_code(code: Code, edition: usize, disk: usize, list: &[u8], buffer: &mut [u8]) -> Planned
-    requires { ⌜ Workable (linear code) (record { edition = edition; disk = disk; wanted = now list }) (length (now buffer)) ⌝ }
-    ensures { λ r. ⌜ Worked (linear code) (record { edition = edition; disk = disk; wanted = now (list .entry) }) (now (buffer .entry)) (now (buffer .exit)) (asPlanned r) ⌝ }
+fn plan_code(code: Code, edition: usize, disks: &[u8], list: &[u8], buffer: &mut [u8]) -> Planned
+    requires { ⌜ Workable (linear code) (record { edition = edition; disks = now disks; wanted = now list }) (length (now buffer)) ⌝ }
+    ensures { λ r. ⌜ Worked (linear code) (record { edition = edition; disks = now (disks .entry); wanted = now (list .entry) }) (now (buffer .entry)) (now (buffer .exit)) (asPlanned r) ⌝ }
 {
     let layout = code.layout;
     let rows = code.rows;
     let data_symbols = code.data_symbols;
-    let loss = loss_of_plan(layout, disk, edition, list);
+    let gone = lost_symbols(layout, disks);
+    let loss = loss_of(layout, disks, gone, edition, list);
     let symbols = loss.symbols;
     let survivors = loss.survivors;
     let wanted = loss.wanted;
@@ -120,7 +129,7 @@ fn plan_code(code: Code, edition: usize, disk: usize, list: &[u8], buffer: &mut 
         edition,
         layout,
         data_symbols,
-        disk,
+        disks,
         list,
         wanted,
         subsets,
@@ -132,22 +141,22 @@ fn plan_code(code: Code, edition: usize, disk: usize, list: &[u8], buffer: &mut 
     }
 }
 
-// Plans for a failed disk and a list of wanted symbols; edition 1 has none, and wants the whole disk.
+// Plans for failed disks and a list of wanted symbols; without entries all lost symbols are wanted.
 fn plan_asked(
     sheet: &[u8],
     edition: usize,
-    disk: usize,
+    disks: &[u8],
     wanted: &[u8],
     buffer: &mut [u8],
 ) -> Planned
-    requires { ⌜ EditionFits edition (now wanted) ⌝ }
-    ensures { λ r. ⌜ Promised (now (sheet .entry)) (record { edition = edition; disk = disk; wanted = now (wanted .entry) }) (now (buffer .entry)) (now (buffer .exit)) (asPlanned r) ⌝ }
+    requires { ⌜ EditionFits edition (now disks) (now wanted) ⌝ }
+    ensures { λ r. ⌜ Promised (now (sheet .entry)) (record { edition = edition; disks = now (disks .entry); wanted = now (wanted .entry) }) (now (buffer .entry)) (now (buffer .exit)) (asPlanned r) ⌝ }
 {
     let reading = read_code(sheet);
     let code = reading.code;
-    let verdict = plan_test(reading, edition, disk, wanted, buffer.len());
+    let verdict = plan_test(reading, edition, disks, wanted, buffer.len());
     let Verdict::Refused(refusal) = verdict else {
-        return plan_code(code, edition, disk, wanted, buffer);
+        return plan_code(code, edition, disks, wanted, buffer);
     };
     Planned::Refused(refusal)
 }
@@ -160,7 +169,8 @@ pub fn plan(sheet: &[u8], disk: usize, buffer: &mut [u8]) -> Planned
     ensures exactly { λ r. ⌜ PlansWhereAnyCould (now (sheet .entry)) (wholeDisk disk) (length (now (buffer .entry))) (asPlanned r) ⌝ }
     ensures rules { λ r. ⌜ RulesSayDemand2 (now (sheet .entry)) (wholeDisk disk) (length (now (buffer .entry))) ⌝ }
 {
-    plan_asked(sheet, 1, disk, &sheet[0..0], buffer)
+    let disks = [disk_byte(disk)];
+    plan_asked(sheet, 1, &disks[0..1], &sheet[0..0], buffer)
 }
 
 // Plans the rebuild of the listed symbols of a disk alone: an edition 2 plan sheet that wants exactly these, or a pattern. A refusal changes no byte.
@@ -171,5 +181,18 @@ pub fn plan_wanted(sheet: &[u8], disk: usize, wanted: &[u8], buffer: &mut [u8]) 
     ensures exactly { λ r. ⌜ PlansWhereAnyCould (now (sheet .entry)) (listedOn disk (now (wanted .entry))) (length (now (buffer .entry))) (asPlanned r) ⌝ }
     ensures rules { λ r. ⌜ RulesSayDemand2 (now (sheet .entry)) (listedOn disk (now (wanted .entry))) (length (now (buffer .entry))) ⌝ }
 {
-    plan_asked(sheet, 2, disk, wanted, buffer)
+    let disks = [disk_byte(disk)];
+    plan_asked(sheet, 2, &disks[0..1], wanted, buffer)
+}
+
+// Plans the rebuild of the listed symbols of a set of disks, of all without entries: an edition 3 plan sheet that has both lists as they were given, or a
+// pattern. A refusal changes no byte.
+pub fn plan_disks(sheet: &[u8], disks: &[u8], wanted: &[u8], buffer: &mut [u8]) -> Planned
+    ensures refusal { λ r. ⌜ outcomeOf (asPlanned r) ≡ planningVerdict (now (sheet .entry)) (listedOnSet (now (disks .entry)) (now (wanted .entry))) (length (now (buffer .entry))) ⌝ }
+    ensures buffer { λ r. ⌜ BufferLeft (now (buffer .entry)) (now (buffer .exit)) (asPlanned r) ⌝ }
+    ensures demand3 { λ r. ⌜ Demand3 (now (sheet .entry)) (listedOnSet (now (disks .entry)) (now (wanted .entry))) (now (buffer .exit)) (asPlanned r) ⌝ }
+    ensures exactly { λ r. ⌜ PlansWhereAnyCould (now (sheet .entry)) (listedOnSet (now (disks .entry)) (now (wanted .entry))) (length (now (buffer .entry))) (asPlanned r) ⌝ }
+    ensures rules { λ r. ⌜ RulesSayDemand2 (now (sheet .entry)) (listedOnSet (now (disks .entry)) (now (wanted .entry))) (length (now (buffer .entry))) ⌝ }
+{
+    plan_asked(sheet, 3, disks, wanted, buffer)
 }

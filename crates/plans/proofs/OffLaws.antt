@@ -15,7 +15,6 @@ use Rattle.bits.proofs.Booleans.{and-left, and-right, and-true-if-both}
 use Rattle.bits.proofs.DifferenceLaws.{alike-below-difference, difference-below, apart-at-difference}
 use Rattle.bits.proofs.SearchLaws.{firstFrom-holds, none-before-firstFrom}
 use Rattle.codes.specs.Codes.{LinearCode, symbols, matrix, WithinLimits}
-use Rattle.codes.specs.Layouts.{firstSymbol}
 use Rattle.gf2.specs.Plans.{run, PlacesBelow, extend, filledAfter, UsesOnlyKnown, Accepted}
 use Rattle.gf2.specs.Stripes.{symbol, Valid, patternStripe, runOnStripe}
 use Rattle.gf2.specs.declared.Step.{Step}
@@ -27,10 +26,10 @@ use Rattle.plan_sheets.specs.declared.step.SheetStep.{SheetStep}
 use Rattle.refusals.specs.Orders.{Fault, _gets_, orIf, firstOf, ifFine, Outcome, Fine, Refused, Refuses}
 use Rattle.refusals.specs.Refusals.{_at_}
 use Rattle.refusals.proofs.OrderLaws.{refused-is-not-fine, same-refusal, refused-before}
-use Rattle.plans.specs.Judgement.{survives, stepFaults, stepsVerdict, neverFilled, endsWrong, lowestWanted, lowestOff, placesPerRow, endOrder, endFaults, SetsWithin, judgement, bodyVerdict}
+use Rattle.plans.specs.Judgement.{survives, stepFaults, stepsVerdict, neverFilled, endsWrong, lowestWanted, lowestOff, placesPerRow, endOrder, endFaults, SetsWithin, judgement, originOf, bodyVerdict}
 use Rattle.plans.specs.Check.{sheetFaults, judged, checkVerdict, checked}
 use Rattle.plans.specs.WhatIsOff.{SurvivorsHold, singleStripe, ComesOutRight, ComesOutWrong, Off, WhatIsOff}
-use Rattle.plans.proofs.JudgementLaws.{wantedBy, WantedGood, usesOnlyKnown-if-fine, none-wanted-if-none-lowest, run-on-symbols, plan-sets, length-matrix, matrix-below, matrix-survives-below, head-fine}
+use Rattle.plans.proofs.JudgementLaws.{wantedBy, ListsGood, usesOnlyKnown-if-fine, none-wanted-if-none-lowest, run-on-symbols, sets-if-good, length-matrix, matrix-below, matrix-survives-below, head-fine}
 use Rattle.plans.proofs.CheckLaws.{fits-if-fine, refused-if-answered, headVerdict}
 
 -- ------------------------------------------------------------------
@@ -114,34 +113,34 @@ ends-off-if-refused rows count alive wanted origin sets steps stated place e = b
 -- ------------------------------------------------------------------
 -- A plan
 
-module _ (code : LinearCode) (within : WithinLimits code) (disk : ℕ) (disk-below : disk < code .layout .disks) (plan : Plan) (good : WantedGood code disk plan) where
+module _ (code : LinearCode) (within : WithinLimits code) (disks : List ℕ) (plan : Plan) (good : ListsGood code disks plan) where
   abbrev wanted : ℕ → Bool
-  wanted = wantedBy code disk plan
+  wanted = wantedBy code disks plan
 
   abbrev alive : ℕ → Bool
-  alive = survives (code .layout) disk
+  alive = survives (code .layout) disks
 
   abbrev steps : List Step
   steps = stepsOf plan
 
-  sets : SetsWithin (symbols code) alive wanted (firstSymbol (code .layout) disk)
-  sets = plan-sets (code .layout) disk disk-below (plan .head .edition) (plan .wanted) good
+  sets : SetsWithin (symbols code) alive wanted (originOf (code .layout) disks (plan .head .edition))
+  sets = sets-if-good code within disks plan good
 
   rows-counted : length (matrix code) ≡ symbols code
-  rows-counted = length-matrix code within disk disk-below
+  rows-counted = length-matrix code within
 
   wanted-rows : PlacesBelow (length (matrix code)) wanted
   wanted-rows = subst (λ (n : ℕ). PlacesBelow n wanted) (sym rows-counted) (sets .wanted-below)
 
   surviving-rows : PlacesBelow (length (matrix code)) alive
-  surviving-rows = matrix-survives-below code within disk disk-below
+  surviving-rows = matrix-survives-below code within disks
 
   -- The place of 21 says what is off
-  pub off-if-body-refused : (place : ℕ) → bodyVerdict code disk plan ≡ Refused (21 at place) → WhatIsOff code disk plan place
+  pub off-if-body-refused : (place : ℕ) → bodyVerdict code disks plan ≡ Refused (21 at place) → WhatIsOff code disks plan place
   unfolding bodyVerdict
   off-if-body-refused place e =
-      subst (λ (u : ℕ). Off code disk plan u (place % placesPerRow)) symbol-is
-      (subst (Off code disk plan s) data-symbol-is
+      subst (λ (u : ℕ). Off code disks plan u (place % placesPerRow)) symbol-is
+      (subst (Off code disks plan s) data-symbol-is
       (record {
         symbol-wanted = ends .is-wanted;
         data-symbol-below = off-below;
@@ -153,8 +152,8 @@ module _ (code : LinearCode) (within : WithinLimits code) (disk : ℕ) (disk-bel
       s : ℕ
       s = lowestWanted (symbols code) wanted (endsWrong (code .rows) steps)
 
-      ends : EndsOff (code .rows) (symbols code) alive wanted (firstSymbol (code .layout) disk) steps place s
-      ends = ends-off-if-refused (code .rows) (symbols code) alive wanted (firstSymbol (code .layout) disk) sets (plan .steps) (plan .head .reads) place e
+      ends : EndsOff (code .rows) (symbols code) alive wanted (originOf (code .layout) disks (plan .head .edition)) steps place s
+      ends = ends-off-if-refused (code .rows) (symbols code) alive wanted (originOf (code .layout) disks (plan .head .edition)) sets (plan .steps) (plan .head .reads) place e
 
       -- The row that the steps make of a symbol, and its own
       made : ℕ → ℕ
@@ -165,7 +164,7 @@ module _ (code : LinearCode) (within : WithinLimits code) (disk : ℕ) (disk-bel
 
       made-is : (t : ℕ) → wanted t ≡ true → made t ≡ getD (run steps (code .rows)) t 0
       made-is t is-wanted =
-          run-on-symbols (code .rows) (symbols code) alive wanted (firstSymbol (code .layout) disk) sets (plan .steps) (plan .head .reads) (ends .uses-only-known) t (sets .wanted-below t is-wanted)
+          run-on-symbols (code .rows) (symbols code) alive wanted (originOf (code .layout) disks (plan .head .edition)) sets (plan .steps) (plan .head .reads) (ends .uses-only-known) t (sets .wanted-below t is-wanted)
 
       own-is : (t : ℕ) → wanted t ≡ true → own t ≡ getD (code .rows) t 0
       own-is t is-wanted = getD-take (symbols code) (code .rows) t 0 (sets .wanted-below t is-wanted)
@@ -175,10 +174,10 @@ module _ (code : LinearCode) (within : WithinLimits code) (disk : ℕ) (disk-bel
       fits = omega (arith, within .data-to)
 
       made-below : made s < 2 ^ code .data_symbols
-      made-below = run-below (code .data_symbols) steps (matrix code) (matrix-below code within disk disk-below) s
+      made-below = run-below (code .data_symbols) steps (matrix code) (matrix-below code within) s
 
       own-below : own s < 2 ^ code .data_symbols
-      own-below = matrix-below code within disk disk-below s
+      own-below = matrix-below code within s
 
       apart : made s ≡ own s → ⊥
       apart same = ends .wrong (sym (made-is s (ends .is-wanted)) ∙ same ∙ own-is s (ends .is-wanted))
@@ -191,13 +190,13 @@ module _ (code : LinearCode) (within : WithinLimits code) (disk : ℕ) (disk-bel
       off-below = difference-below (code .data_symbols) (made s) (own s) fits made-below own-below apart
 
       -- The place in its parts
-      place-is : place ≡ (s - firstSymbol (code .layout) disk) * placesPerRow + off
-      place-is = ends .place-is ∙ ap (λ (d : ℕ). (s - firstSymbol (code .layout) disk) * placesPerRow + d) (sym (ap₂ firstDifference (made-is s (ends .is-wanted)) (own-is s (ends .is-wanted))))
+      place-is : place ≡ (s - originOf (code .layout) disks (plan .head .edition)) * placesPerRow + off
+      place-is = ends .place-is ∙ ap (λ (d : ℕ). (s - originOf (code .layout) disks (plan .head .edition)) * placesPerRow + d) (sym (ap₂ firstDifference (made-is s (ends .is-wanted)) (own-is s (ends .is-wanted))))
 
       data-symbol-is : off ≡ place % placesPerRow
       data-symbol-is = omega (arith, place-is, off-below, within .data-to)
 
-      symbol-is : s ≡ firstSymbol (code .layout) disk + place / placesPerRow
+      symbol-is : s ≡ originOf (code .layout) disks (plan .head .edition) + place / placesPerRow
       symbol-is = omega (arith, place-is, off-below, within .data-to, sets .wanted-from s (ends .is-wanted))
 
       -- The symbols before it
@@ -215,27 +214,27 @@ module _ (code : LinearCode) (within : WithinLimits code) (disk : ℕ) (disk-bel
                 made-is t is-wanted ∙ ends .earlier t (ltb-true t s (and-right (wanted t) (ltb t s) both)) is-wanted ∙ sym (own-is t is-wanted);
           }
 
-      whole : {L : ℕ} {stripe x : List ℕ} → SurvivorsHold code disk L stripe x → length x ≡ length (matrix code) * L
+      whole : {L : ℕ} {stripe x : List ℕ} → SurvivorsHold code disks L stripe x → length x ≡ length (matrix code) * L
       whole {L} holds = holds .whole ∙ ap (λ (n : ℕ). n * L) (sym rows-counted)
 
-      earlier-right : (t : ℕ) → t < s → wanted t ≡ true → (L : ℕ) (stripe : List ℕ) → Valid L (code .data_symbols) (matrix code) stripe → ComesOutRight code disk plan t L stripe
+      earlier-right : (t : ℕ) → t < s → wanted t ≡ true → (L : ℕ) (stripe : List ℕ) → Valid L (code .data_symbols) (matrix code) stripe → ComesOutRight code disks plan t L stripe
       earlier-right t earlier is-wanted L stripe valid x holds =
           accepted-restores-stripes (matrix code) wanted alive before steps wanted-rows surviving-rows accepted-before L (code .data_symbols) stripe x valid
           (whole holds) (holds .bytes) (holds .same-survivors) t (and-true-if-both (wanted t) (ltb t s) is-wanted (lt-ltb t s earlier))
 
       -- What comes out of the stripe of a data symbol, and what should
-      comes-out : (t L : ℕ) (x : List ℕ) → SurvivorsHold code disk L (singleStripe code t L) x → symbol L (runOnStripe L steps x) s ≡ replicate L (overlap (2 ^ t) (made s))
+      comes-out : (t L : ℕ) (x : List ℕ) → SurvivorsHold code disks L (singleStripe code t L) x → symbol L (runOnStripe L steps x) s ≡ replicate L (overlap (2 ^ t) (made s))
       comes-out t L x holds =
-          symbol-run-on-pattern (matrix code) (ends .uses-only-known) wanted-rows surviving-rows L (code .data_symbols) (matrix-below code within disk disk-below) (2 ^ t) x
+          symbol-run-on-pattern (matrix code) (ends .uses-only-known) wanted-rows surviving-rows L (code .data_symbols) (matrix-below code within) (2 ^ t) x
           (whole holds) (holds .same-survivors) s (ends .filled s (ends .is-wanted))
 
       should-be : (t L : ℕ) → symbol L (singleStripe code t L) s ≡ replicate L (overlap (2 ^ t) (own s))
-      should-be t L = symbol-patternStripe L (code .data_symbols) (matrix code) (2 ^ t) s (matrix-below code within disk disk-below) (wanted-rows s (ends .is-wanted))
+      should-be t L = symbol-patternStripe L (code .data_symbols) (matrix code) (2 ^ t) s (matrix-below code within) (wanted-rows s (ends .is-wanted))
 
-      lower-right : (t : ℕ) → t < off → (L : ℕ) → ComesOutRight code disk plan s L (singleStripe code t L)
+      lower-right : (t : ℕ) → t < off → (L : ℕ) → ComesOutRight code disks plan s L (singleStripe code t L)
       lower-right t lower L x holds = comes-out t L x holds ∙ ap (replicate L) (alike-below-difference (made s) (own s) t lower) ∙ sym (should-be t L)
 
-      comes-out-wrong : (L : ℕ) → 1 ≤ L → ComesOutWrong code disk plan s L (singleStripe code off L)
+      comes-out-wrong : (L : ℕ) → 1 ≤ L → ComesOutWrong code disks plan s L (singleStripe code off L)
       comes-out-wrong L L-from x holds same =
           let shown : replicate L (overlap (2 ^ off) (made s)) ≡ replicate L (overlap (2 ^ off) (own s)) = sym (comes-out off L x holds) ∙ same ∙ should-be off L in
           apart-at-difference (code .data_symbols) (made s) (own s) fits made-below own-below apart
@@ -250,22 +249,22 @@ unfolding reading codeVerdict
 code-never-21 codeSheet place e = refused-is-not-fine (sym (refused-before 21 place Fine (codeFaults codeSheet) refl e))
 
 -- Where checking answers 21, its place says what is off
-pub off-if-refused : (codeSheet : List ℕ) (disk : ℕ) (planSheet : List ℕ) → (reading codeSheet .verdict ≡ Fine → WithinLimits (reading codeSheet .code))
-    → (place : ℕ) → checked codeSheet disk planSheet ≡ Refuses (21 at place) → WhatIsOff (reading codeSheet .code) disk (planIn planSheet) place
+pub off-if-refused : (codeSheet disks planSheet : List ℕ) → (reading codeSheet .verdict ≡ Fine → WithinLimits (reading codeSheet .code))
+    → (place : ℕ) → checked codeSheet disks planSheet ≡ Refuses (21 at place) → WhatIsOff (reading codeSheet .code) disks (planIn planSheet) place
 unfolding checked judged
-off-if-refused codeSheet disk planSheet limits place e =
-    by-head (headVerdict (reading codeSheet) disk planSheet) refl (refused-if-answered (checkVerdict codeSheet disk planSheet) (headIn planSheet .reads) (21 at place) e)
+off-if-refused codeSheet disks planSheet limits place e =
+    by-head (headVerdict (reading codeSheet) disks planSheet) refl (refused-if-answered (checkVerdict codeSheet disks planSheet) (headIn planSheet .reads) (21 at place) e)
   where
     code : LinearCode
     code = reading codeSheet .code
 
-    by-head : (head : Outcome) → headVerdict (reading codeSheet) disk planSheet ≡ head
-        → ifFine head (bodyVerdict code disk (planIn planSheet)) head ≡ Refused (21 at place) → WhatIsOff code disk (planIn planSheet) place
+    by-head : (head : Outcome) → headVerdict (reading codeSheet) disks planSheet ≡ head
+        → ifFine head (bodyVerdict code disks (planIn planSheet)) head ≡ Refused (21 at place) → WhatIsOff code disks (planIn planSheet) place
     by-head Fine q told =
-        let fits = fits-if-fine (reading codeSheet .verdict) (code .layout) (code .data_symbols) disk planSheet q in
+        let fits = fits-if-fine (reading codeSheet) disks planSheet q in
         let within = limits (fits .code-good) in
-        off-if-body-refused code within disk (fits .disk-good) (planIn planSheet) (head-fine code within disk (fits .disk-good) (planIn planSheet) (fits .head-fine) .1) place told
+        off-if-body-refused code within disks (planIn planSheet) (head-fine code within disks (planIn planSheet) (fits .head-fine)) place told
     by-head (Refused refusal) q told =
         absurd
         (code-never-21 codeSheet place
-        (refused-before 21 place (reading codeSheet .verdict) (sheetFaults (code .layout) (code .data_symbols) disk planSheet) refl (q ∙ told)))
+        (refused-before 21 place (reading codeSheet .verdict) (sheetFaults (code .layout) (code .data_symbols) disks planSheet) refl (q ∙ told)))

@@ -2,7 +2,7 @@
 use mathlib.Core.Path.{_≡_, refl, ap, _∙_, subst}
 use mathlib.Core.Bool.{false}
 use mathlib.Core.List.{List, [], _∷_, _++_, List·Memᴰ, List·Memᴰ·head, List·Memᴰ·tail, List·Memᴰ·cases-cons, List·Memᴰ·not-nil}
-use mathlib.Core.Logic.{⊎-elim, inl, inr}
+use mathlib.Core.Logic.{_⊎_, ⊎-elim, inl, inr}
 use Prim.Native.Nat.{ℕ, _<_}
 use lib.ListN.{length}
 use borrow.Author.Tests.{lt-leb}
@@ -11,7 +11,7 @@ use Rattle.gf2.specs.Plans.{target, NamesBelow, StepsBelow, reads, NoneOntoItse
 use Rattle.gf2.specs.declared.Step.{Step}
 use Rattle.gf2.specs.declared.Step.the-variants.{Clear, Copy, Add}
 use Rattle.plan_sheets.specs.PlanSheets.{firstStep, sheetSteps}
-use Rattle.plan_sheets.specs.InnerPlanSheets.{EditionFits, headFor, stepBytes, stepsBytes}
+use Rattle.plan_sheets.specs.InnerPlanSheets.{EditionFits, First, Second, Third, headFor, stepBytes, stepsBytes}
 use Rattle.plan_sheets.proofs.ReadBackLaws.{behind-first-step}
 use Rattle.plans.specs.Demand2.{HeadFits}
 use Rattle.plans.specs.Judgement.{malformed, ontoItself, EachFormed}
@@ -45,8 +45,12 @@ module _ (count : ℕ) (some : 0 < count) where
       (subst (λ (b : List ℕ). List·Memᴰ s (sheetSteps (length steps) b)) (behind-first-step step (stepsBytes steps)) later))
       (List·Memᴰ·cases-cons m)
 
--- The head fits the code and the disk that it was written for
-pub head-fits-written : (code : LinearCode) (edition disk reads : ℕ) (list : List ℕ) → EditionFits edition list
-    → HeadFits code disk (headFor edition (code .layout) (code .data_symbols) disk reads)
-head-fits-written code edition disk reads list fits =
-    record { first-count = refl; edition = ⊎-elim (λ one. inl (one .0)) (λ two. inr two) fits; disks = refl; height = refl; data-symbols = refl; failed-disk = refl }
+-- The head fits the code that it was written for
+pub head-fits-written : (code : LinearCode) (edition reads : ℕ) {failed wanted : List ℕ} → EditionFits edition failed wanted
+    → HeadFits code (headFor edition (code .layout) (code .data_symbols) reads)
+head-fits-written code edition reads fits = record { edition = known fits; first-count = refl; disks = refl; height = refl; data-symbols = refl }
+  where
+    known : {failed wanted : List ℕ} → EditionFits edition failed wanted → (edition ≡ 1) ⊎ (edition ≡ 2) ⊎ (edition ≡ 3)
+    known (First e one none) = inl e
+    known (Second e one) = inr (inl e)
+    known (Third e) = inr (inr e)

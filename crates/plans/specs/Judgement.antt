@@ -1,65 +1,87 @@
--- The judgement of a plan with any number of steps (document 01, "When the desk says no" and "How tight the answers are"; document 02, §3, §6 and §7):
--- 13 for the first count, 14, 15, 16, 23; then steps in order, in each 17, 18, 25, 19; then 20 over all wanted symbols, 21 over all of them, 22.
+-- The judgement of a plan with any number of steps (document 01, "When the desk says no" and "How tight the answers are"; document 02, §3, §5, §6 and §7):
+-- 13 for the first count, 14, 15, 7 for a listed disk, 24, 16, 23; then steps in order, in each 17, 18, 25, 19; then 20 over all wanted symbols,
+-- 21 over all of them, 22. Editions 1 and 2 have a list of one disk.
 use mathlib.Core.Path.{_≡_}
 use mathlib.Core.Bool.{Bool, true, false, cond, not, _&&_, _||_}
 use mathlib.Core.List.{List, [], _∷_, _++_, map, List·Memᴰ}
 use Prim.Native.Nat.{ℕ, suc, _+_, _-_, _*_, _≤_}
 use lib.Dec.{eqb, leb, ltb}
-use lib.ListN.{getD}
+use lib.ListN.{length, getD}
 use Rattle.plan_sheets.specs.PlanSheets.{Plan, stepOf}
 use Rattle.plan_sheets.specs.declared.step.SheetStep.{SheetStep}
 use Rattle.plan_sheets.specs.declared.head.PlanHead.{PlanHead}
 use Rattle.codes.specs.Codes.{LinearCode}
-use Rattle.codes.specs.Layouts.{symbolsOf, firstSymbol, heightOf, onDisk}
+use Rattle.codes.specs.Layouts.{symbolsOf, firstSymbol, diskOf}
 use Rattle.codes.specs.declared.Layout.{Layout}
 use Rattle.bits.specs.Lists.{firstFrom, countFrom}
 use Rattle.bits.specs.Numerals.{firstDifference}
 use Rattle.gf2.specs.Plans.{run, readByAny, PlacesBelow, extend, ready, filledAfter}
 use Rattle.gf2.specs.declared.Step.{Step}
-use Rattle.lists.specs.Lists.{listFaults, listed}
+use Rattle.lists.specs.Lists.{listFaults, listed, diskFaults, same}
 use Rattle.refusals.specs.Orders.{Fault, _gets_, firstOf, ifFine, Outcome, Fine, Answer, answering}
 use Rattle.refusals.specs.Refusals.{_at_}
 
 -- ------------------------------------------------------------------
 -- Lost and surviving symbols
 
--- The lost strip is the symbols of the failed disk
-abbrev pub lost : Layout → ℕ → ℕ → Bool
-lost layout disk s = ltb s (symbolsOf layout) && onDisk layout disk s
+-- Lost are the symbols of the failed disks
+abbrev pub lost : Layout → List ℕ → ℕ → Bool
+lost layout disks s = ltb s (symbolsOf layout) && listed disks (diskOf layout s)
 
 -- All others survive
-abbrev pub survives : Layout → ℕ → ℕ → Bool
-survives layout disk s = ltb s (symbolsOf layout) && not (onDisk layout disk s)
+abbrev pub survives : Layout → List ℕ → ℕ → Bool
+survives layout disks s = ltb s (symbolsOf layout) && not (listed disks (diskOf layout s))
+
+-- How many symbols are lost: of one disk r
+abbrev pub lostCount : Layout → List ℕ → ℕ
+lostCount layout disks = countFrom (lost layout disks) 0 (symbolsOf layout)
 
 -- ------------------------------------------------------------------
 -- The head
 
--- First count (13), 14 (editions 1 and 2 are allowed), 15, 16
-abbrev pub headFaults : Layout → ℕ → ℕ → PlanHead → List Fault
-headFaults layout dataSymbols disk head =
-    (not (eqb (head .count) 6) gets 13 at 0)
-    ∷ (not (eqb (head .edition) 1 || eqb (head .edition) 2) gets 14 at 0)
+-- First count 6 goes with editions 1 and 2, 5 with edition 3
+abbrev pub editionOf : ℕ → ℕ → Bool
+editionOf count edition = cond (eqb count 5) (eqb edition 3) (eqb edition 1 || eqb edition 2)
+
+-- First count (13), another edition for it (14), 15
+abbrev pub headFaults : Layout → ℕ → PlanHead → List Fault
+headFaults layout dataSymbols head =
+    (not (eqb (head .count) 5 || eqb (head .count) 6) gets 13 at 0)
+    ∷ (not (editionOf (head .count) (head .edition)) gets 14 at 0)
     ∷ (not (eqb (head .disks) (layout .disks)) gets 15 at 0)
     ∷ (not (eqb (head .height) (layout .height)) gets 15 at 0)
     ∷ (not (eqb (head .data_symbols) dataSymbols) gets 15 at 0)
-    ∷ (not (eqb (head .disk) disk) gets 16 at 0)
     ∷ []
 
--- Wanted are the symbols of edition 2's list; an edition 1 sheet wants its whole disk
-abbrev pub wantedOf : Layout → ℕ → ℕ → List ℕ → ℕ → Bool
-wantedOf layout disk edition list s = cond (eqb edition 2) (listed list s) (lost layout disk s)
+-- Edition 3 lists at most all disks; editions 1 and 2 have one
+abbrev pub mostFailed : ℕ → ℕ → ℕ
+mostFailed edition disks = cond (eqb edition 3) disks 1
+
+-- 7 for a listed disk, 24, 16 if the list isn't the asked one
+abbrev pub failedFaults : Layout → List ℕ → ℕ → List ℕ → List Fault
+failedFaults layout disks edition failed =
+    diskFaults (layout .disks) (mostFailed edition (layout .disks)) failed ++ ((not (same failed disks) gets 16 at 0) ∷ [])
+
+-- Wanted are the listed symbols, and without a list all lost ones
+abbrev pub wantedOf : Layout → List ℕ → List ℕ → ℕ → Bool
+wantedOf layout disks list s = cond (eqb (length list) 0) (lost layout disks s) (listed list s)
 
 -- All other symbols of the array are kept
-abbrev pub keptOf : Layout → ℕ → ℕ → List ℕ → ℕ → Bool
-keptOf layout disk edition list s = ltb s (symbolsOf layout) && not (wantedOf layout disk edition list s)
+abbrev pub keptOf : Layout → List ℕ → List ℕ → ℕ → Bool
+keptOf layout disks list s = ltb s (symbolsOf layout) && not (wantedOf layout disks list s)
 
--- Edition 2 wants at least one symbol
+-- Edition 2 lists at least one symbol
 abbrev pub leastWanted : ℕ → ℕ
 leastWanted edition = cond (eqb edition 2) 1 0
 
--- 23: a count of 0 or above r, then the first entry that doesn't rise or isn't on the failed disk. Edition 1 has no entries
-abbrev pub wantedFaults : Layout → ℕ → ℕ → List ℕ → List Fault
-wantedFaults layout disk edition list = listFaults (leastWanted edition) (heightOf layout disk) (lost layout disk) list (λ position. 23 at position)
+-- Editions 2 and 3 list at most all lost ones, edition 1 none
+abbrev pub mostWanted : Layout → List ℕ → ℕ → ℕ
+mostWanted layout disks edition = cond (eqb edition 1) 0 (lostCount layout disks)
+
+-- 23: a count out of these bounds, then the first entry that doesn't rise or isn't lost
+abbrev pub wantedFaults : Layout → List ℕ → ℕ → List ℕ → List Fault
+wantedFaults layout disks edition list =
+    listFaults (leastWanted edition) (mostWanted layout disks edition) (lost layout disks) list (λ position. 23 at position)
 
 -- ------------------------------------------------------------------
 -- The steps
@@ -129,7 +151,7 @@ lowestOff rows steps s = firstDifference (getD (run steps rows) s 0) (getD rows 
 abbrev pub placesPerRow : ℕ
 placesPerRow = 64
 
--- 20 over all wanted symbols, 21 over all of them, 22. A symbol's row counts from the origin; 21 names a data symbol besides
+-- 20 over all wanted symbols, 21 over all of them, 22. Places count from the origin; 21 names a data symbol besides
 abbrev pub endOrder : ℕ → ℕ → ℕ → ℕ → ℕ → ℕ → ℕ → List Fault
 endOrder count origin unfilled wrong off stated trueCount =
     (ltb unfilled count gets 20 at unfilled - origin)
@@ -160,15 +182,25 @@ judgement rows count survives wanted origin steps stated =
     let ran = stepsVerdict count wanted survives 0 steps in
     ifFine ran (firstOf (endFaults rows count survives wanted origin (map stepOf steps) stated)) ran
 
--- What follows the head of a plan, judged by the sets of its disk and its list; places are rows of the disk
-unfoldable pub bodyVerdict : LinearCode → ℕ → Plan → Outcome
-bodyVerdict code disk plan =
-    let layout = code .layout in
-    judgement (code .rows) (symbolsOf layout) (survives layout disk) (wantedOf layout disk (plan .head .edition) (plan .wanted)) (firstSymbol layout disk) (plan .steps) (plan .head .reads)
+-- Where places count from: in editions 1 and 2 they are rows of the failed disk, in edition 3 symbol numbers
+abbrev pub originOf : Layout → List ℕ → ℕ → ℕ
+originOf layout disks edition = cond (eqb edition 3) 0 (firstSymbol layout (getD disks 0 0))
 
--- Every rule of the check, the sheet's length and the step limit left aside: the head, 23, the steps and the end
-unfoldable pub planVerdict : LinearCode → ℕ → Plan → Outcome
-planVerdict code disk plan =
+-- What follows the head of a plan, judged by the sets of its disks and its list
+unfoldable pub bodyVerdict : LinearCode → List ℕ → Plan → Outcome
+bodyVerdict code disks plan =
     let layout = code .layout in
-    let head = firstOf (headFaults layout (code .data_symbols) disk (plan .head) ++ wantedFaults layout disk (plan .head .edition) (plan .wanted)) in
-    ifFine head (bodyVerdict code disk plan) head
+    judgement (code .rows) (symbolsOf layout) (survives layout disks) (wantedOf layout disks (plan .wanted)) (originOf layout disks (plan .head .edition)) (plan .steps) (plan .head .reads)
+
+-- The head of a plan and its lists
+abbrev pub planFaults : LinearCode → List ℕ → Plan → List Fault
+planFaults code disks plan =
+    let layout = code .layout in
+    let edition = plan .head .edition in
+    headFaults layout (code .data_symbols) (plan .head) ++ failedFaults layout disks edition (plan .failed) ++ wantedFaults layout disks edition (plan .wanted)
+
+-- Every rule of the check, the sheet's length and the step limit left aside: the head and its lists, the steps and the end
+unfoldable pub planVerdict : LinearCode → List ℕ → Plan → Outcome
+planVerdict code disks plan =
+    let head = firstOf (planFaults code disks plan) in
+    ifFine head (bodyVerdict code disks plan) head

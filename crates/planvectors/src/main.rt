@@ -1,9 +1,14 @@
-// The test vectors of planning: reads records from standard input, asks for a plan for each disk that a record names, prints a line for each.
+// The test vectors of planning: reads records from standard input, asks for a plan for each disk or set of disks that a record names, prints a
+// line for each.
 //
 // A record is two bytes with its length, then one byte that is 1 where a plan's bytes are to be shown, one byte as a seed, two bytes with the
-// buffer's length, one byte with the number of disks that are asked about, 8 bytes with the first of them, one byte that is 1 where planning is
-// given a list of wanted symbols, two bytes with the list's length (0 without a list), the list, and the code sheet. All numbers have their low
-// byte first. The buffer is filled from the seed, and so is the data of the stripe that a plan is tried on.
+// buffer's length, one byte with the number of questions, 8 bytes with a number, one byte with their kind, two bytes with the length of a list of
+// wanted symbols, the list, with kind 2 the asked disks, a byte each, and the code sheet. All numbers have their low byte first. The buffer is
+// filled from the seed, and so is the data of the stripe that a plan is tried on.
+//
+//   kind 0, disks one after the other, without a list: the number is the first disk
+//   kind 1, disks one after the other, with a list: the number is the first disk
+//   kind 2, one question about a set of disks, with a list that may be empty: the number is the number of asked disks
 //
 //   refused NUMBER at PLACE same                             the refusal, and whether the buffer is as it was
 //   plan LENGTH READS accepted behind-same restored BYTES    whether the checker accepts the plan with these reads, and its sheet wants what
@@ -25,7 +30,6 @@ use records::fill;
 use records::filled;
 use records::front_of;
 use records::is_zero;
-use records::is_zero_beside;
 use records::number_at;
 use records::print;
 use records::print_bytes;
@@ -50,24 +54,55 @@ fn room() -> [u8; ROOM]
     [0; ROOM]
 }
 
-fn is_listed(record: &[u8]) -> bool {
-    byte_at(record, 13) == 1
+fn kind_of(record: &[u8]) -> usize {
+    byte_at(record, 13)
 }
 
 fn list_in(record: &[u8]) -> &[u8] {
     front_of(rest_at(record, 16), short_number_at(record, 14))
 }
 
-fn sheet_in(record: &[u8]) -> &[u8] {
+// The bytes after the list: the asked disks, where the record names a set, and the code sheet.
+fn behind_list(record: &[u8]) -> &[u8] {
     rest_at(rest_at(record, 16), short_number_at(record, 14))
 }
 
-// Whether a symbol of the lost disk is wanted; without a list, each is.
-fn is_wanted(record: &[u8], symbol: usize) -> bool {
-    if is_listed(record) {
-        return contains(list_in(record), symbol);
+// How many disks of a set a record names.
+fn asked_count(record: &[u8]) -> usize {
+    if kind_of(record) == 2 {
+        return number_at(record, 5);
     }
-    true
+    0
+}
+
+fn asked_in(record: &[u8]) -> &[u8] {
+    front_of(behind_list(record), asked_count(record))
+}
+
+fn sheet_in(record: &[u8]) -> &[u8] {
+    rest_at(behind_list(record), asked_count(record))
+}
+
+// The disk on which a symbol lies; 0 for a sheet whose disks have no symbols.
+fn disk_of(sheet: &[u8], symbol: usize) -> usize {
+    let height = byte_at(sheet, 3);
+    if height == 0 {
+        return 0;
+    }
+    symbol / height
+}
+
+fn is_lost(record: &[u8], disks: &[u8], symbol: usize) -> bool {
+    contains(disks, disk_of(sheet_in(record), symbol))
+}
+
+// Wanted are the listed symbols, and without a list all lost ones.
+fn is_wanted(record: &[u8], disks: &[u8], symbol: usize) -> bool {
+    let list = list_in(record);
+    if list.len() == 0 {
+        return is_lost(record, disks, symbol);
+    }
+    contains(list, symbol)
 }
 
 fn is_fine(verdict: Verdict) -> bool {
@@ -81,67 +116,90 @@ fn encodes(sheet: &[u8], size: usize, contents: &[u8], stripe: &mut [u8]) -> boo
     is_fine(encoding::encode(sheet, size, contents, stripe))
 }
 
-fn rebuilds(sheet: &[u8], disk: usize, plan: &[u8], size: usize, stripe: &mut [u8]) -> bool {
-    is_fine(rebuild::rebuild(sheet, disk, plan, size, stripe))
+fn rebuilds(sheet: &[u8], disks: &[u8], plan: &[u8], size: usize, stripe: &mut [u8]) -> bool {
+    is_fine(rebuild::rebuild(sheet, disks, plan, size, stripe))
 }
 
 // Whether the checker accepts a plan with these reads.
-fn accepts(sheet: &[u8], disk: usize, plan: &[u8], reads: usize) -> bool {
-    let checked = checker::check(sheet, disk, plan);
+fn accepts(sheet: &[u8], disks: &[u8], plan: &[u8], reads: usize) -> bool {
+    let checked = checker::check(sheet, disks, plan);
     match checked {
         Checked::Accepted { reads: true_reads } => true_reads == reads,
         Checked::Refused(_) => false,
     }
 }
 
-// Whether a sheet holds the list that planning was given, or none where it was given none.
-fn wants_asked(record: &[u8], plan: &[u8]) -> bool {
-    let edition = byte_at(plan, 1);
-    if is_listed(record) {
-        let wanted = front_of(rest_at(plan, 8), byte_at(plan, 7));
-        return (edition == 2) & same(wanted, list_in(record));
-    }
-    edition == 1
+// A list of a plan sheet: its entries, after their number at a place.
+fn list_at(plan: &[u8], at: usize) -> &[u8] {
+    front_of(rest_at(rest_at(plan, at), 1), byte_at(plan, at))
 }
 
-// Ruins a lost symbol of a stripe. One that is not wanted is then as ruined in the whole stripe: a rebuild has to keep its bytes.
-fn ruin_symbol(record: &[u8], symbol: usize, size: usize, stripe: &mut [u8], whole: &mut [u8]) {
+// Whether an edition 3 sheet lists these disks, and the wanted symbols that planning was given.
+fn lists_asked(record: &[u8], disks: &[u8], plan: &[u8]) -> bool {
+    let listed = byte_at(plan, 6);
+    (byte_at(plan, 0) == 5)
+        & (byte_at(plan, 1) == 3)
+        & same(list_at(plan, 6), disks)
+        & same(list_at(plan, 7 + listed), list_in(record))
+}
+
+// Whether a sheet is of the edition asked for, with the lists that planning was given.
+fn wants_asked(record: &[u8], disks: &[u8], plan: &[u8]) -> bool {
+    let edition = byte_at(plan, 1);
+    match kind_of(record) {
+        0 => edition == 1,
+        1 => (edition == 2) & same(list_at(plan, 7), list_in(record)),
+        _ => lists_asked(record, disks, plan),
+    }
+}
+
+// Ruins a symbol of a stripe if it is lost. One that is not wanted is then as ruined in the whole stripe: a rebuild has to keep its bytes.
+fn ruin_symbol(
+    record: &[u8],
+    disks: &[u8],
+    symbol: usize,
+    size: usize,
+    stripe: &mut [u8],
+    whole: &mut [u8],
+) {
+    if !is_lost(record, disks, symbol) {
+        return;
+    }
     let start = product(symbol, size);
     let end = start + product(1, size);
     fill(stripe, start, end, start);
-    if !is_wanted(record, symbol) {
+    if !is_wanted(record, disks, symbol) {
         fill(whole, start, end, start);
     }
 }
 
-// Ruins the lost strip of a stripe.
-fn ruin(record: &[u8], disk: usize, size: usize, stripe: &mut [u8], whole: &mut [u8]) {
-    let height = byte_at(sheet_in(record), 3);
-    let first = product(disk, height);
-    let mut row = 0;
-    while row < height {
-        ruin_symbol(record, first + row, size, stripe, whole);
-        row += 1;
+// Ruins the lost strips of a stripe.
+fn ruin(record: &[u8], disks: &[u8], size: usize, stripe: &mut [u8], whole: &mut [u8]) {
+    let symbols = byte_at(sheet_in(record), 5);
+    let mut symbol = 0;
+    while symbol < symbols {
+        ruin_symbol(record, disks, symbol, size, stripe, whole);
+        symbol += 1;
     }
 }
 
-// Ruins the lost strip of a stripe, and says whether a plan makes of it the whole stripe again, but for symbols that are not wanted.
+// Ruins the lost strips of a stripe, and says whether a plan makes of it the whole stripe again, but for symbols that are not wanted.
 fn gives_back(
     record: &[u8],
-    disk: usize,
+    disks: &[u8],
     plan: &[u8],
     size: usize,
     stripe: &mut [u8],
     whole: &mut [u8],
 ) -> bool {
-    ruin(record, disk, size, stripe, whole);
-    rebuilds(sheet_in(record), disk, plan, size, stripe) & same(stripe, whole)
+    ruin(record, disks, size, stripe, whole);
+    rebuilds(sheet_in(record), disks, plan, size, stripe) & same(stripe, whole)
 }
 
 // Whether a plan restores the stripe of these data, for which there are two places.
 fn restores_from(
     record: &[u8],
-    disk: usize,
+    disks: &[u8],
     plan: &[u8],
     size: usize,
     contents: &[u8],
@@ -151,11 +209,11 @@ fn restores_from(
     let sheet = sheet_in(record);
     encodes(sheet, size, contents, stripe)
         & encodes(sheet, size, contents, whole)
-        & gives_back(record, disk, plan, size, stripe, whole)
+        & gives_back(record, disks, plan, size, stripe, whole)
 }
 
 // Whether a plan restores a stripe of symbols of 1 to 7 bytes.
-fn restores(record: &[u8], disk: usize, plan: &[u8]) -> bool {
+fn restores(record: &[u8], disks: &[u8], plan: &[u8]) -> bool {
     let sheet = sheet_in(record);
     let seed = byte_at(record, 1);
     let size = 1 + seed % 7;
@@ -165,7 +223,7 @@ fn restores(record: &[u8], disk: usize, plan: &[u8]) -> bool {
     let mut whole = room();
     restores_from(
         record,
-        disk,
+        disks,
         plan,
         size,
         front_of(&contents, product(byte_at(sheet, 4), size)),
@@ -174,38 +232,46 @@ fn restores(record: &[u8], disk: usize, plan: &[u8]) -> bool {
     )
 }
 
+// Whether a stripe of one byte a symbol is zero in every surviving symbol.
+fn agrees_on_survivors(record: &[u8], disks: &[u8], stripe: &[u8]) -> bool {
+    let mut symbol = 0;
+    while symbol < stripe.len() {
+        if stripe[symbol] != 0 && !is_lost(record, disks, symbol) {
+            return false;
+        }
+        symbol += 1;
+    }
+    true
+}
+
 // Whether a stripe of one byte a symbol is not zero in some wanted symbol.
-fn loses_wanted(record: &[u8], disk: usize, stripe: &[u8]) -> bool {
-    let height = byte_at(sheet_in(record), 3);
-    let first = product(disk, height);
-    let mut row = 0;
-    while row < height {
-        if byte_at(stripe, first + row) != 0 && is_wanted(record, first + row) {
+fn loses_wanted(record: &[u8], disks: &[u8], stripe: &[u8]) -> bool {
+    let mut symbol = 0;
+    while symbol < stripe.len() {
+        if stripe[symbol] != 0 && is_wanted(record, disks, symbol) {
             return true;
         }
-        row += 1;
+        symbol += 1;
     }
     false
 }
 
 // Whether the stripe of these data is zero on every surviving symbol and not in every wanted one.
-fn shows_loss(record: &[u8], disk: usize, contents: &[u8], stripe: &mut [u8]) -> bool {
-    let sheet = sheet_in(record);
-    let height = byte_at(sheet, 3);
-    encodes(sheet, 1, contents, stripe)
-        & is_zero_beside(stripe, product(disk, height), height)
-        & loses_wanted(record, disk, stripe)
+fn shows_loss(record: &[u8], disks: &[u8], contents: &[u8], stripe: &mut [u8]) -> bool {
+    encodes(sheet_in(record), 1, contents, stripe)
+        & agrees_on_survivors(record, disks, stripe)
+        & loses_wanted(record, disks, stripe)
 }
 
 // Whether a pattern has bits below K alone, and a stripe that shows that the wanted symbols can't all be rebuilt.
-fn is_good(record: &[u8], disk: usize, pattern: u64) -> bool {
+fn is_good(record: &[u8], disks: &[u8], pattern: u64) -> bool {
     let sheet = sheet_in(record);
     let bits = spread(pattern);
     let data_symbols = byte_at(sheet, 4);
     let length = byte_at(sheet, 5);
     let mut stripe = room();
     let contents = front_of(&bits, data_symbols);
-    shows_loss(record, disk, contents, &mut stripe[0..length])
+    shows_loss(record, disks, contents, &mut stripe[0..length])
         & is_zero(rest_at(&bits, data_symbols))
 }
 
@@ -219,13 +285,13 @@ fn print_judged(length: usize, reads: usize, accepted: bool, behind_same: bool, 
 }
 
 // Prints what holds of a plan, and its bytes if asked for.
-fn print_plan(record: &[u8], disk: usize, plan: &[u8], reads: usize, behind_same: bool) {
+fn print_plan(record: &[u8], disks: &[u8], plan: &[u8], reads: usize, behind_same: bool) {
     print_judged(
         plan.len(),
         reads,
-        accepts(sheet_in(record), disk, plan, reads) & wants_asked(record, plan),
+        accepts(sheet_in(record), disks, plan, reads) & wants_asked(record, disks, plan),
         behind_same,
-        restores(record, disk, plan),
+        restores(record, disks, plan),
     );
     if byte_at(record, 0) == 1 {
         print_bytes(plan);
@@ -245,39 +311,40 @@ fn print_refused(refusal: Refusal, unchanged: bool) {
 }
 
 // Prints what planning answered, and what became of its buffer, which was as the copy is.
-fn print_answer(record: &[u8], disk: usize, planned: Planned, buffer: &[u8], copy: &[u8]) {
+fn print_answer(record: &[u8], disks: &[u8], planned: Planned, buffer: &[u8], copy: &[u8]) {
     match planned {
         Planned::Plan { length, reads } => print_plan(
             record,
-            disk,
+            disks,
             front_of(buffer, length),
             reads,
             same_behind(buffer, copy, length),
         ),
         Planned::Pattern { pattern } => {
             let number = low_word(pattern);
-            print_pattern(number, same(buffer, copy), is_good(record, disk, number))
+            print_pattern(number, same(buffer, copy), is_good(record, disks, number))
         }
         Planned::Refused(refusal) => print_refused(refusal, same(buffer, copy)),
     }
 }
 
-// Asks for a plan, with a list where the record has one.
-fn plan(record: &[u8], disk: usize, buffer: &mut [u8]) -> Planned {
+// Asks for a plan: for one disk, without a list or with one, or for a set of disks.
+fn plan(record: &[u8], disk: usize, disks: &[u8], buffer: &mut [u8]) -> Planned {
     let sheet = sheet_in(record);
-    if is_listed(record) {
-        return planner::plan_wanted(sheet, disk, list_in(record), buffer);
+    match kind_of(record) {
+        0 => planner::plan(sheet, disk, buffer),
+        1 => planner::plan_wanted(sheet, disk, list_in(record), buffer),
+        _ => planner::plan_disks(sheet, disks, list_in(record), buffer),
     }
-    planner::plan(sheet, disk, buffer)
 }
 
-fn ask(record: &[u8], disk: usize, buffer: &mut [u8], copy: &[u8]) {
-    let planned = plan(record, disk, buffer);
-    print_answer(record, disk, planned, buffer, copy);
+fn ask(record: &[u8], disk: usize, disks: &[u8], buffer: &mut [u8], copy: &[u8]) {
+    let planned = plan(record, disk, disks, buffer);
+    print_answer(record, disks, planned, buffer, copy);
 }
 
-// Asks about a disk, with a buffer of the record's length.
-fn ask_about(record: &[u8], disk: usize) {
+// Asks about a disk or a set of disks, with a buffer of the record's length. What is answered for one disk is judged by the set of it alone.
+fn ask_about(record: &[u8], disk: usize, disks: &[u8]) {
     let length = short_number_at(record, 2);
     if length > ROOM {
         return;
@@ -287,17 +354,28 @@ fn ask_about(record: &[u8], disk: usize) {
     ask(
         record,
         disk,
+        disks,
         &mut buffer[0..length],
         front_of(&copy, length),
     );
 }
 
-// Asks about each disk that a record names.
-fn answer(record: &[u8]) {
+// A disk as an entry of a set. One that a byte can't hold is refused, so that no plan or pattern is judged by its entry.
+fn entry_of(disk: usize) -> u8 {
+    (disk % 256) as u8
+}
+
+fn ask_about_disk(record: &[u8], disk: usize) {
+    let disks = [entry_of(disk)];
+    ask_about(record, disk, &disks[0..1]);
+}
+
+// Asks about each disk that a record names, one after the other.
+fn ask_about_each(record: &[u8]) {
     let mut left = byte_at(record, 4);
     let mut disk = number_at(record, 5);
     while left > 0 {
-        ask_about(record, disk);
+        ask_about_disk(record, disk);
         end_line();
         if disk > 64 {
             return;
@@ -305,6 +383,15 @@ fn answer(record: &[u8]) {
         disk += 1;
         left -= 1;
     }
+}
+
+fn answer(record: &[u8]) {
+    if kind_of(record) == 2 {
+        ask_about(record, 0, asked_in(record));
+        end_line();
+        return;
+    }
+    ask_about_each(record);
 }
 
 // Answers a record of a length, or says that there is none.

@@ -151,11 +151,6 @@ pub fn is_zero(bytes: &[u8]) -> bool {
     same(bytes, front_of(&zeros, bytes.len()))
 }
 
-// Whether bytes are zero before a part and behind it, at most 64 on each side.
-pub fn is_zero_beside(bytes: &[u8], start: usize, length: usize) -> bool {
-    is_zero(front_of(bytes, start)) & is_zero(rest_at(rest_at(bytes, start), length))
-}
-
 // Whether a number is among bytes.
 pub fn contains(bytes: &[u8], number: usize) -> bool {
     let mut i = 0;

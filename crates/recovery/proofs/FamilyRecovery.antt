@@ -9,7 +9,8 @@ use Rattle.bits.specs.BitSets.{overlap, count, countIn, scale}
 use Rattle.bits.specs.Lists.{tabulate, symbolsIn}
 use Rattle.bits.specs.Numerals.{padded}
 use Rattle.codes.specs.Codes.{rowsOf}
-use Rattle.codes.specs.Layouts.{symbolsOf, firstSymbol, heightOf, diskOf, onDisk}
+use Rattle.codes.specs.Layouts.{symbolsOf, firstSymbol, heightOf, diskOf}
+use Rattle.lists.specs.Lists as Lists
 use Rattle.family_codes.specs.Families.{listed, threeFiveOrSeven, familyCode, familyRow, diskRow, parityRow, dataOrRowParity, unit, sumOver, diagonalEntry}
 use Rattle.family_codes.specs.declared.Family.{Family}
 use Rattle.family_codes.specs.declared.Family.the-variants.{RowDiagonal, EvenOdd}
@@ -21,7 +22,7 @@ use Rattle.recovery.specs.Recovery.{EachDiskHasAPlan, RecoversEachDisk}
 use Rattle.recovery.proofs.RecoveryLaws.{allBelow, noPatternFound, each-disk-has-a-plan}
 
 -- What holds of 3, 5 and 7 holds of every listed number
-by-listed-number : (Holds : ℕ → Type 0) → Holds 3 → Holds 5 → Holds 7 → (p : ℕ) → threeFiveOrSeven p ≡ true → Holds p
+pub by-listed-number : (Holds : ℕ → Type 0) → Holds 3 → Holds 5 → Holds 7 → (p : ℕ) → threeFiveOrSeven p ≡ true → Holds p
 by-listed-number Holds three five seven p h = by-tests (eqb p 3) (eqb p 5) (eqb p 7) refl refl refl h
   where
     by-tests : (a b c : Bool) → eqb p 3 ≡ a → eqb p 5 ≡ b → eqb p 7 ≡ c → (a || b || c) ≡ true → Holds p
@@ -49,7 +50,7 @@ recovers-if-none-found family listed-so none p is-listed =
 -- Row-diagonal
 
 row-diagonal-computed : noneFound RowDiagonal ≡ true
-unfolding allBelow familyCode familyRow diskRow parityRow dataOrRowParity unit sumOver diagonalEntry rowsOf tabulate symbolsOf firstSymbol heightOf diskOf onDisk symbolsIn padded unitsFrom survivors remaining reducePatterns pivotFor oddPattern overlap count countIn scale
+unfolding allBelow familyCode familyRow diskRow parityRow dataOrRowParity unit sumOver diagonalEntry rowsOf tabulate symbolsOf firstSymbol heightOf diskOf Lists.listed symbolsIn padded unitsFrom survivors remaining reducePatterns pivotFor oddPattern overlap count countIn scale
 row-diagonal-computed = refl
 
 -- Each disk of a row-diagonal array has a plan
@@ -61,7 +62,7 @@ row-diagonal-recovers-each-disk = recovers-if-none-found RowDiagonal (λ p. refl
 -- EVENODD
 
 evenodd-computed : noneFound EvenOdd ≡ true
-unfolding allBelow familyCode familyRow diskRow parityRow unit sumOver diagonalEntry rowsOf tabulate symbolsOf firstSymbol heightOf diskOf onDisk symbolsIn padded unitsFrom survivors remaining reducePatterns pivotFor oddPattern overlap count countIn scale
+unfolding allBelow familyCode familyRow diskRow parityRow unit sumOver diagonalEntry rowsOf tabulate symbolsOf firstSymbol heightOf diskOf Lists.listed symbolsIn padded unitsFrom survivors remaining reducePatterns pivotFor oddPattern overlap count countIn scale
 evenodd-computed = refl
 
 -- Each disk of an EVENODD array has a plan

@@ -1,10 +1,11 @@
 // A step of a plan sheet, read against the places known by then: a decoded step, or why it is refused.
 ghost use mathlib.Core.Path.{_≡_};
-ghost use Prim.Native.Nat.{_≤_, _<_};
+ghost use Prim.Native.Nat.{_+_, _≤_, _<_};
+ghost use lib.ListN.{length};
 ghost use Rattle.bits.specs.BitSets.{has};
 ghost use Rattle.bits.specs.Numerals.{setWidth, numeral};
 ghost use Rattle.gf2.specs.Plans.{ready, NamesBelow};
-ghost use Rattle.plan_sheets.specs.PlanSheets.{stepAt};
+ghost use Rattle.plan_sheets.specs.PlanSheets.{stepsLength, stepAt};
 ghost use Rattle.plans.specs.Judgement.{malformed, ontoItself, stepReading};
 ghost use Rattle.plans.specs.InnerProgress.{asStep};
 ghost use Rattle.refusals.specs.Orders.{outcome, outcomeOf};
@@ -94,7 +95,7 @@ pub fn read_step(
     wanted: BitSet,
     known: BitSet,
 ) -> StepReading
-    requires { ⌜ (symbols ≤ setWidth) × (number < 1024) ⌝ }
+    requires { ⌜ (symbols ≤ setWidth) × (number < 1024) × (stepsLength (number + 1) ≤ length (now steps)) ⌝ }
     ensures { λ r. ⌜ asStep r ≡ stepReading symbols (has (numeral wanted)) (has (numeral known)) number (stepAt (now (steps .entry)) number) ⌝ }
 {
     judge_step(step_at(steps, number), number, symbols, wanted, known)

@@ -8,10 +8,11 @@
 //   call 2, encode: L, data length, data seed, stripe length, stripe seed, sheet length; the sheet, the data's first bytes
 //   call 3, one strip: disk, L, stripe length, stripe seed; the sheet
 //   call 4, look up: disk, L, stripe length, stripe seed, spare length, spare seed, symbol; the sheet
-//   call 5, check: disk, code sheet length; the code sheet, the plan sheet
+//   call 5, check: number of asked disks, code sheet length; the asked disks (a byte each), the code sheet, the plan sheet
 //   call 6, the desk: its whole input
-//   call 7, rebuild: disk, L, stripe length, stripe seed, data length (0: no data is encoded first), data seed, start and end of
-//     the strip that is ruined, its seed (below 256: that byte throughout), code sheet length; the code sheet, the plan sheet
+//   call 7, rebuild: number of asked disks, L, stripe length, stripe seed, data length (0: no data is encoded first), data seed,
+//     start and end of the strip that is ruined, its seed (below 256: that byte throughout), code sheet length; the asked disks,
+//     the code sheet, the plan sheet
 ghost use mathlib.Core.Path.{_≡_};
 ghost use Prim.Native.Nat.{_≤_, _<_};
 ghost use lib.ListN.{length};
@@ -212,9 +213,11 @@ fn look_up(record: &[u8], stripe: &mut [u8], spare: &mut [u8]) {
 
 fn check(record: &[u8]) {
     let rest = rest_at(record, 17);
-    let sheet = front_of(rest, number_at(record, 9));
-    let plan = rest_at(rest, sheet.len());
-    let checked = checker::check(sheet, number_at(record, 1), plan);
+    let disks = front_of(rest, number_at(record, 1));
+    let sheets = rest_at(rest, disks.len());
+    let sheet = front_of(sheets, number_at(record, 9));
+    let plan = rest_at(sheets, sheet.len());
+    let checked = checker::check(sheet, disks, plan);
     match checked {
         Checked::Accepted { reads } => {
             print(b"accepted reads");
@@ -271,11 +274,12 @@ fn encode_first(sheet: &[u8], size: usize, contents: &[u8], stripe: &mut [u8]) {
 }
 
 fn rebuild(record: &[u8], stripe: &mut [u8], contents: &mut [u8]) {
-    let disk = number_at(record, 1);
     let size = number_at(record, 9);
     let rest = rest_at(record, 81);
-    let sheet = front_of(rest, number_at(record, 73));
-    let plan = rest_at(rest, sheet.len());
+    let disks = front_of(rest, number_at(record, 1));
+    let sheets = rest_at(rest, disks.len());
+    let sheet = front_of(sheets, number_at(record, 73));
+    let plan = rest_at(sheets, sheet.len());
     fill_all(stripe, number_at(record, 25));
     fill_all(contents, number_at(record, 41));
     encode_first(sheet, size, contents, stripe);
@@ -285,7 +289,7 @@ fn rebuild(record: &[u8], stripe: &mut [u8], contents: &mut [u8]) {
         number_at(record, 57),
         number_at(record, 65),
     );
-    print_verdict(rebuild::rebuild(sheet, disk, plan, size, stripe));
+    print_verdict(rebuild::rebuild(sheet, disks, plan, size, stripe));
     print_digest(stripe);
 }
 

@@ -1,6 +1,6 @@
 //! The rules once more, in plain Rust and by other means than the proved library: rows are lists of truth values, a lost place is a
-//! value that may be missing, a good list is found in the strip from front to back, encoding scatters each data symbol, and whether
-//! symbols can be rebuilt is a question of ranks.
+//! value that may be missing, a good list is found among all disks or all lost symbols from front to back, encoding scatters each data
+//! symbol, and whether symbols can be rebuilt is a question of ranks.
 #![allow(dead_code)]
 use std::cmp::Ordering;
 use std::collections::HashSet;
@@ -29,6 +29,14 @@ impl Code {
     /// The symbols of a disk.
     pub fn strip(&self, disk: usize) -> std::ops::Range<usize> {
         disk * self.height..(disk + 1) * self.height
+    }
+
+    /// The symbols of some disks, rising.
+    pub fn strips(&self, disks: &[u8]) -> Vec<usize> {
+        (0..self.disks)
+            .filter(|disk| disks.iter().any(|&d| d as usize == *disk))
+            .flat_map(|disk| self.strip(disk))
+            .collect()
     }
 
     /// The code's sheet.
@@ -173,66 +181,115 @@ pub fn encode(sheet: &[u8], size: u64, data: &[u8], stripe_length: usize) -> Res
     Ok(scatter(&code, size, data))
 }
 
-/// A plan sheet that is whole: what it wants, how many symbols it says it reads, and its steps.
+/// A plan sheet that is whole: what it wants, how many symbols it says it reads, its steps, and whether refusals name a wanted symbol by
+/// its number (edition 3) or by its row of the disk.
 pub struct Plan {
     pub wanted: Vec<usize>,
     pub reads: usize,
     pub steps: Vec<[u8; 3]>,
+    by_number: bool,
 }
 
-/// A list of wanted symbols, 23. A good one is found in the strip from front to back: each entry somewhere after the one before it.
-pub fn wanted_list(code: &Code, disk: usize, list: &[u8]) -> Result<Vec<usize>, No> {
-    let mut strip = code.strip(disk);
-    if list.is_empty() || list.len() > strip.len() {
+/// The first entry of a list that isn't found in what there is, which rises, after the entry before it.
+fn not_found(list: &[u8], there: impl IntoIterator<Item = usize>) -> Option<u64> {
+    let mut there = there.into_iter();
+    list.iter().position(|&entry| !there.any(|number| number == entry as usize)).map(|position| position as u64)
+}
+
+/// A list of wanted symbols, 23, of at least so many entries. Those of an empty one, if that may be, are all lost symbols.
+pub fn wanted_list(code: &Code, disks: &[u8], list: &[u8], least: usize) -> Result<Vec<usize>, No> {
+    let lost = code.strips(disks);
+    if list.len() < least || list.len() > lost.len() {
         return Err((23, 0));
     }
-    match list.iter().position(|&entry| !strip.any(|symbol| symbol == entry as usize)) {
-        Some(position) => Err((23, position as u64)),
+    match not_found(list, lost.clone()) {
+        Some(position) => Err((23, position)),
+        None if list.is_empty() => Ok(lost),
         None => Ok(list.iter().map(|&entry| entry as usize).collect()),
     }
 }
 
-/// The head's 11, 13, 14, 15, 16; then, from what follows the first seven bytes, the list and the steps.
-pub fn read_plan(code: &Code, disk: usize, plan: &[u8]) -> Result<Plan, No> {
-    let [count, edition, n, r, k, failed, reads, rest @ ..] = plan else { return Err((11, 0)) };
+/// A list of failed disks: 7 over all of it, then 24.
+pub fn disk_list(code: &Code, list: &[u8]) -> Result<(), No> {
+    if list.iter().any(|&disk| disk as usize >= code.disks) {
+        return Err((7, 0));
+    }
+    if list.is_empty() || list.len() > code.disks {
+        return Err((24, 0));
+    }
+    not_found(list, 0..code.disks).map_or(Ok(()), |position| Err((24, position)))
+}
+
+/// A list after its count, and what follows; none if the sheet ends before.
+fn counted_list(bytes: &[u8]) -> Option<(&[u8], &[u8])> {
+    let (count, rest) = bytes.split_first()?;
+    (rest.len() >= *count as usize).then(|| rest.split_at(*count as usize))
+}
+
+/// A plan sheet for failed disks, a list that is known to be good. Under 9 bytes (11), 13, 14, 15; then by its edition.
+pub fn read_plan(code: &Code, disks: &[u8], plan: &[u8]) -> Result<Plan, No> {
+    let [count, edition, n, r, k, rest @ ..] = plan else { return Err((11, 0)) };
     match () {
-        _ if rest.len() < 2 => return Err((11, 0)),
-        _ if *count != 6 => return Err((13, 0)),
-        _ if !matches!(edition, 1 | 2) => return Err((14, 0)),
+        _ if plan.len() < 9 => return Err((11, 0)),
+        _ if !matches!(count, 5 | 6) => return Err((13, 0)),
+        _ if !matches!((count, edition), (6, 1) | (6, 2) | (5, 3)) => return Err((14, 0)),
         _ if [*n, *r, *k].map(usize::from) != [code.disks, code.height, code.data] => return Err((15, 0)),
-        _ if *failed as usize != disk => return Err((16, 0)),
         _ => {}
     }
-    let (list, rest) = match (edition, rest) {
-        (1, _) => (None, rest),
-        (_, [wanted, rest @ ..]) if rest.len() >= *wanted as usize + 2 => {
-            let (list, rest) = rest.split_at(*wanted as usize);
-            (Some(list), rest)
-        }
-        _ => return Err((11, 0)),
-    };
-    let steps = u16::from_le_bytes([rest[0], rest[1]]) as usize;
-    if steps > 1024 {
-        return Err((13, 0));
+    match edition {
+        3 => plan_for_a_list(code, disks, rest),
+        _ => plan_for_one(code, disks, *edition == 2, rest),
     }
-    let wanted = match list {
-        None => code.strip(disk).collect(),
-        Some(list) => wanted_list(code, disk, list)?,
-    };
-    let rest = &rest[2..];
+}
+
+/// Editions 1 and 2 from the failed disk on: 16; for a list 11 if the sheet ends before the step count does; step limit, 23, 11, 12.
+fn plan_for_one(code: &Code, disks: &[u8], listed: bool, rest: &[u8]) -> Result<Plan, No> {
+    let (failed, reads, rest) = (&rest[..1], rest[1], &rest[2..]);
+    if failed != disks {
+        return Err((16, 0));
+    }
+    let (list, rest) = if listed { counted_list(rest).ok_or((11, 0))? } else { (&[][..], rest) };
+    let steps = step_count(rest)?;
+    let wanted = wanted_list(code, disks, list, listed as usize)?;
+    Ok(Plan { wanted, reads: reads as usize, steps: steps_of(&rest[2..], steps)?, by_number: false })
+}
+
+/// Edition 3 from the read count on: 11 if the sheet ends before the step count does, step limit, 7 and 24 for the listed disks, 16, 23, 11,
+/// 12.
+fn plan_for_a_list(code: &Code, disks: &[u8], rest: &[u8]) -> Result<Plan, No> {
+    let (reads, rest) = (rest[0], &rest[1..]);
+    let (failed, rest) = counted_list(rest).ok_or((11, 0))?;
+    let (list, rest) = counted_list(rest).ok_or((11, 0))?;
+    let steps = step_count(rest)?;
+    disk_list(code, failed)?;
+    if failed != disks {
+        return Err((16, 0));
+    }
+    let wanted = wanted_list(code, disks, list, 0)?;
+    Ok(Plan { wanted, reads: reads as usize, steps: steps_of(&rest[2..], steps)?, by_number: true })
+}
+
+/// 11 if it isn't there, 13 if it is above the limit.
+fn step_count(rest: &[u8]) -> Result<usize, No> {
+    match rest {
+        [low, high, ..] if *low as usize + 256 * *high as usize <= 1024 => Ok(*low as usize + 256 * *high as usize),
+        [_, _, ..] => Err((13, 0)),
+        _ => Err((11, 0)),
+    }
+}
+
+/// So many steps and nothing else: 11, 12.
+fn steps_of(rest: &[u8], steps: usize) -> Result<Vec<[u8; 3]>, No> {
     match rest.len().cmp(&(3 * steps)) {
         Ordering::Less => Err((11, 0)),
         Ordering::Greater => Err((12, 0)),
-        Ordering::Equal => {
-            let steps = rest.chunks(3).map(|step| [step[0], step[1], step[2]]).collect();
-            Ok(Plan { wanted, reads: *reads as usize, steps })
-        }
+        Ordering::Equal => Ok(rest.chunks(3).map(|step| [step[0], step[1], step[2]]).collect()),
     }
 }
 
 /// What the steps make of the rows, and the survivors that they read: 17, 18, 25, 19. Lost places are missing until a step fills them.
-fn run(code: &Code, disk: usize, plan: &Plan) -> Result<(Vec<Option<Row>>, HashSet<usize>), No> {
-    let lost = code.strip(disk);
+fn run(code: &Code, disks: &[u8], plan: &Plan) -> Result<(Vec<Option<Row>>, HashSet<usize>), No> {
+    let lost = code.strips(disks);
     let row = |s: usize| (!lost.contains(&s)).then(|| code.rows[s].clone());
     let mut held: Vec<Option<Row>> = (0..code.symbols()).map(row).collect();
     let mut read = HashSet::new();
@@ -276,19 +333,30 @@ pub fn read_code_with(sheet: &[u8], disk: u64) -> Result<(Code, usize), No> {
     Ok((code, disk as usize))
 }
 
-/// A plan, judged: its sheet, its steps, then 20 and 21 over the wanted symbols, 22.
+/// A disk as the list of it, 7 where no array has such a disk: what the calls of one disk mean.
+fn as_list(sheet: &[u8], disk: u64) -> Result<[u8; 1], No> {
+    let (_, disk) = read_code_with(sheet, disk)?;
+    Ok([disk as u8])
+}
+
 pub fn check(sheet: &[u8], disk: u64, plan: &[u8]) -> Result<u64, No> {
-    let (code, disk) = read_code_with(sheet, disk)?;
-    let plan = read_plan(&code, disk, plan)?;
-    let (held, read) = run(&code, disk, &plan)?;
-    let row = |s: usize| (s % code.height) as u64;
+    check_disks(sheet, &as_list(sheet, disk)?, plan)
+}
+
+/// A plan, judged for failed disks: code sheet, 7, 24; its sheet, its steps, then 20 and 21 over the wanted symbols, 22.
+pub fn check_disks(sheet: &[u8], disks: &[u8], plan: &[u8]) -> Result<u64, No> {
+    let code = read_code(sheet)?;
+    disk_list(&code, disks)?;
+    let plan = read_plan(&code, disks, plan)?;
+    let (held, read) = run(&code, disks, &plan)?;
+    let name = |s: usize| if plan.by_number { s as u64 } else { (s % code.height) as u64 };
     if let Some(&s) = plan.wanted.iter().find(|&&s| held[s].is_none()) {
-        return Err((20, row(s)));
+        return Err((20, name(s)));
     }
     for &s in &plan.wanted {
         let made = held[s].as_ref().expect("filled");
         if let Some(off) = (0..code.data).find(|&t| made[t] != code.rows[s][t]) {
-            return Err((21, row(s) * 64 + off as u64));
+            return Err((21, name(s) * 64 + off as u64));
         }
     }
     if plan.reads != read.len() {
@@ -297,11 +365,15 @@ pub fn check(sheet: &[u8], disk: u64, plan: &[u8]) -> Result<u64, No> {
     Ok(read.len() as u64)
 }
 
-/// The check, 31, 32; then the steps on the stripe's symbols, one vector each.
 pub fn rebuild(sheet: &[u8], disk: u64, plan: &[u8], size: u64, stripe: &[u8]) -> Result<Vec<u8>, No> {
-    check(sheet, disk, plan)?;
+    rebuild_disks(sheet, &as_list(sheet, disk)?, plan, size, stripe)
+}
+
+/// The check, 31, 32; then the steps on the stripe's symbols, one vector each.
+pub fn rebuild_disks(sheet: &[u8], disks: &[u8], plan: &[u8], size: u64, stripe: &[u8]) -> Result<Vec<u8>, No> {
+    check_disks(sheet, disks, plan)?;
     let code = read_code(sheet)?;
-    let plan = read_plan(&code, disk as usize, plan)?;
+    let plan = read_plan(&code, disks, plan)?;
     let size = symbol_length(size)?;
     if stripe.len() != code.symbols() * size {
         return Err((32, 0));
@@ -340,42 +412,55 @@ pub fn rank(rows: &[Row]) -> usize {
     done
 }
 
-/// Whether symbols of a disk can be rebuilt: their rows add nothing to the rank of the survivors'.
-pub fn can_be_rebuilt(code: &Code, disk: usize, wanted: &[usize]) -> bool {
-    let lost = code.strip(disk);
+/// Whether symbols of lost disks can be rebuilt: their rows add nothing to the rank of the survivors'.
+pub fn can_be_rebuilt(code: &Code, disks: &[u8], wanted: &[usize]) -> bool {
+    let lost = code.strips(disks);
     let mut rows: Vec<Row> = (0..code.symbols()).filter(|s| !lost.contains(s)).map(|s| code.rows[s].clone()).collect();
     let surviving = rank(&rows);
     rows.extend(wanted.iter().map(|&s| code.rows[s].clone()));
     rank(&rows) == surviving
 }
 
-/// What planning must refuse; otherwise the code, the disk and what is wanted of it. Without a list that is all of it.
-pub fn plan_refusal(
-    sheet: &[u8],
-    disk: u64,
-    list: Option<&[u8]>,
-    buffer_length: usize,
-) -> Result<(Code, usize, Vec<usize>), No> {
-    let (code, disk) = read_code_with(sheet, disk)?;
-    let (wanted, room) = match list {
-        None => (code.strip(disk).collect(), 3081),
-        Some(list) => (wanted_list(&code, disk, list)?, 3114),
+/// What planning is asked about.
+#[derive(Clone, Copy, Debug)]
+pub enum Asked<'a> {
+    Disk(u64),
+    Wanted(u64, &'a [u8]),
+    Disks(&'a [u8], &'a [u8]),
+}
+
+/// What planning must refuse; otherwise the code, the lost disks and the wanted symbols.
+pub fn plan_refusal(sheet: &[u8], asked: Asked, buffer_length: usize) -> Result<(Code, Vec<u8>, Vec<usize>), No> {
+    let code = read_code(sheet)?;
+    let (disks, wanted, room) = match asked {
+        Asked::Disk(disk) => {
+            let disks = as_list(sheet, disk)?;
+            (disks.to_vec(), code.strips(&disks), 3081)
+        }
+        Asked::Wanted(disk, list) => {
+            let disks = as_list(sheet, disk)?;
+            (disks.to_vec(), wanted_list(&code, &disks, list, 1)?, 3114)
+        }
+        Asked::Disks(disks, list) => {
+            disk_list(&code, disks)?;
+            (disks.to_vec(), wanted_list(&code, disks, list, 0)?, 3210)
+        }
     };
     if buffer_length < room {
         return Err((34, 0));
     }
-    Ok((code, disk, wanted))
+    Ok((code, disks, wanted))
 }
 
 /// Whether a pattern is good: K bits, its stripe zero on every survivor and not zero in a wanted symbol.
-pub fn good_pattern(code: &Code, disk: usize, wanted: &[usize], pattern: u64, size: usize) -> bool {
+pub fn good_pattern(code: &Code, disks: &[u8], wanted: &[usize], pattern: u64, size: usize) -> bool {
     if code.data < 64 && pattern >> code.data != 0 {
         return false;
     }
     let data: Vec<u8> = (0..code.data).flat_map(|t| vec![(pattern >> t & 1) as u8; size]).collect();
     let stripe = scatter(code, size, &data);
     let zero = |s: usize| stripe[s * size..(s + 1) * size].iter().all(|&byte| byte == 0);
-    let lost = code.strip(disk);
+    let lost = code.strips(disks);
     (0..code.symbols()).all(|s| lost.contains(&s) || zero(s)) && wanted.iter().any(|&s| !zero(s))
 }
 

@@ -120,17 +120,61 @@ pub fn damaged(random: &mut Random, sheet: &[u8]) -> Vec<u8> {
     bytes
 }
 
-/// Some symbols of a disk, rising: one, all or any of them.
-pub fn list(random: &mut Random, code: &Code, disk: usize) -> Vec<u8> {
-    let strip: Vec<u8> = code.strip(disk).map(|s| s as u8).collect();
-    let one = random.pick(&strip);
+/// Some of the numbers: one, all or any of them.
+fn some(random: &mut Random, numbers: Vec<u8>) -> Vec<u8> {
+    let one = random.pick(&numbers);
     let kind = random.below(4);
-    let chosen = |s: &u8| match kind {
-        0 => *s == one,
+    let chosen = |number: &u8| match kind {
+        0 => *number == one,
         1 => true,
-        _ => *s == one || random.one_in(2),
+        _ => *number == one || random.one_in(2),
     };
-    strip.into_iter().filter(chosen).collect()
+    numbers.into_iter().filter(chosen).collect()
+}
+
+/// Some symbols of some disks, rising.
+pub fn list(random: &mut Random, code: &Code, disks: &[u8]) -> Vec<u8> {
+    some(random, code.strips(disks).into_iter().map(|s| s as u8).collect())
+}
+
+/// Some disks of a code, rising: most often one, two or three.
+pub fn disks(random: &mut Random, code: &Code) -> Vec<u8> {
+    let all: Vec<u8> = (0..code.disks as u8).collect();
+    if random.one_in(4) {
+        return some(random, all);
+    }
+    let count = 1 + random.below(3);
+    let mut disks: Vec<u8> = (0..count).map(|_| random.pick(&all)).collect();
+    disks.sort();
+    disks.dedup();
+    disks
+}
+
+/// A list of disks with something wrong with it, most often: another disk, one too many or too few, out of order, given twice, too many.
+pub fn damaged_disks(random: &mut Random, code: &Code, disks: &[u8]) -> Vec<u8> {
+    let (mut disks, n) = (disks.to_vec(), code.disks as u8);
+    let at = random.below(disks.len());
+    match random.below(8) {
+        0 => disks.clear(),
+        1 => disks[at] = random.pick(&[0, n - 1, n, n + 1, 64, 128, 255]),
+        2 => disks.insert(at, disks[at]),
+        3 => {
+            let other = random.below(disks.len());
+            disks.swap(at, other);
+        }
+        4 => drop(disks.remove(at)),
+        5 => {
+            disks.push(random.below(code.disks) as u8);
+            disks.sort();
+            disks.dedup();
+        }
+        6 => disks = (0..n + random.pick(&[0, 1, 2])).map(|disk| disk.min(n - 1)).collect(),
+        _ => {
+            let length = random.pick(&[33, 64, 65, 255, 256, 257, 300, 70_000]);
+            disks = random.bytes(length).into_iter().map(|byte| byte % n).collect();
+        }
+    }
+    disks
 }
 
 /// A list with something wrong with it, most often: an entry changed, out of order, given twice or left out, or too many of them.

@@ -11,14 +11,14 @@ check-plan-requires c κs = tt
 
 returns : tie.Need-returns
 returns c =
-    let args = c .before .before .before .args in
+    let args = c .before .before .before .before .args in
     let checked = c .check-plan .ensures in (
       checked .0,
       (
         checked .1 .0,
         λ place refused.
-            off-if-refused (args .sheet .now) (args .disk) (args .plan .now)
-            (code-within-limits (args .sheet .now) (λ i. omega (arith, c .before .before .shared-slice-known .given i)))
+            off-if-refused (args .sheet .now) (args .disks .now) (args .plan .now)
+            (code-within-limits (args .sheet .now) (λ i. omega (arith, c .before .before .before .shared-slice-known .given i)))
             place (sym (checked .0) ∙ refused),
       ),
     )

@@ -26,6 +26,12 @@ enum-told c = c .match .keys2
 byte-at-requires : tie.Need-byte-at-requires
 byte-at-requires c κs = search needs
 
+cast-t10 : tie.Need-cast-t10
+cast-t10 c = search needs
+
+slice-aggregate-check : tie.Need-slice-aggregate-check
+slice-aggregate-check c = search needs
+
 check-requires : tie.Need-check-requires
 check-requires c κs = search needs
 
@@ -34,12 +40,12 @@ report-requires c κs = search needs
 
 returns : tie.Need-returns
 returns c =
-    let told = c .before .before .before in
+    let told = c .before .before .before .before in
     let read = told .before .before .before .read-code in
     let sheets = told .before .before .before .before in
     holds-as _
     (text-if-fine (sheets .before .before .before .args .input .now) _ (asRead (read .result)) (sheets .before .code-sheet .ensures) (read .ensures .0) _ _ _
-    (sheets .plan-sheet .ensures) (c .before .before .byte-at .ensures .0) (c .before .check .ensures .0) (ap outcome (told .enum-told .given .1)))
+    (sheets .plan-sheet .ensures) (c .before .before .before .byte-at .ensures .0) (c .before .check .ensures .0) (ap outcome (told .enum-told .given .1)))
     (c .report .ensures)
 
 refusal-text-requires : tie.Need-refusal-text-requires
@@ -65,6 +71,8 @@ desk-text-spec =
     enum-known-verdict
     enum-told
     byte-at-requires
+    cast-t10
+    slice-aggregate-check
     check-requires
     report-requires
     returns

@@ -6,36 +6,43 @@ use native.Mathlib.Omega.{arith}
 use borrow.Author.Tests.{not-true, not-false}
 use Rattle.bits.specs.Numerals.{setWidth, numeral, numerals}
 use Rattle.codes.specs.Codes.{LinearCode, linear}
-use Rattle.codes.proofs.LimitLaws.{disk-within}
+use Rattle.codes.proofs.LimitLaws.{layout-within}
 use Rattle.planner.specs.Planning.{Asked}
-use Rattle.planner.proofs.ResultLaws.{EliminatedFor, listed-small, left-zero-behind, worked-pattern, plan-fits, worked-plan}
+use Rattle.planner.proofs.ResultLaws.{EliminatedFor, listed-small, disks-below, left-zero-behind, worked-pattern, plan-fits, worked-plan}
 use Rattle.planner.proofs.plan_code.Statement.{statement}
 use Rattle.planner.proofs.plan_code.Tie as tie
 
 -- What was asked, and of which code
 abbrev askedOf : tie.Start → Asked
-askedOf start = record { edition = start .args .edition; disk = start .args .disk; wanted = start .args .list .now }
+askedOf start = record { edition = start .args .edition; disks = start .args .disks .now; wanted = start .args .list .now }
 
 abbrev codeOf : tie.Start → LinearCode
 codeOf start = linear (start .args .code)
 
-loss-of-plan-requires : tie.Need-loss-of-plan-requires
-loss-of-plan-requires c κs =
-    let began = c .before .before .before .before in (
-      disk-within (codeOf began) (began .pre .within) (began .args .disk) (began .pre .disk-below),
+lost-symbols-requires : tie.Need-lost-symbols-requires
+lost-symbols-requires c κs =
+    let began = c .before .before .before .before .before in
+    (layout-within (codeOf began) (began .pre .within), disks-below (codeOf began) (askedOf began) (began .pre))
+
+loss-of-requires : tie.Need-loss-of-requires
+loss-of-requires c κs =
+    let began = c .before .before .before .before .before .before in (
+      layout-within (codeOf began) (began .pre .within),
+      disks-below (codeOf began) (askedOf began) (began .pre) 0 (began .pre .disks-good .count-from),
+      c .lost-symbols .ensures .0,
       listed-small (codeOf began) (askedOf began) (began .pre),
     )
 
 -- What elimination gave
 abbrev start : tie.After-eliminate-known → tie.Start
-start c = c .before .before .before .before .before .before .before .before
+start c = c .before .before .before .before .before .before .before .before .before .before
 
 eliminated : (c : tie.After-eliminate-known)
-    → EliminatedFor (codeOf (start c)) (askedOf (start c)) (c .before .before .before .loss-of-plan .result .symbols) (numeral (c .before .before .before .loss-of-plan .result .survivors))
-    (numeral (c .before .before .before .loss-of-plan .result .wanted)) (numerals (c .eliminate-known .result .surviving)) (numerals (c .eliminate-known .result .pivots))
+    → EliminatedFor (codeOf (start c)) (askedOf (start c)) (c .before .before .before .loss-of .result .symbols) (numeral (c .before .before .before .loss-of .result .survivors))
+    (numeral (c .before .before .before .loss-of .result .wanted)) (numerals (c .eliminate-known .result .surviving)) (numerals (c .eliminate-known .result .pivots))
     (numerals (c .eliminate-known .result .remaining))
 eliminated c =
-    let loss = c .before .before .before .loss-of-plan .ensures in
+    let loss = c .before .before .before .loss-of .ensures in
     let solved = c .eliminate-known .ensures in
     record {
       count-is = loss .0;
@@ -47,14 +54,14 @@ eliminated c =
     }
 
 -- The array's symbols and its data symbols are few enough for a set
-symbols-small : (c : tie.After-loss-of-plan) → c .loss-of-plan .result .symbols ≤ setWidth
-symbols-small c = omega (arith, c .loss-of-plan .ensures .0, c .before .before .before .before .before .pre .within .symbols-to)
+symbols-small : (c : tie.After-loss-of) → c .loss-of .result .symbols ≤ setWidth
+symbols-small c = omega (arith, c .loss-of .ensures .0, c .before .before .before .before .before .before .before .pre .within .symbols-to)
 
 data-small : (c : tie.Start) → c .args .code .data_symbols ≤ setWidth
 data-small c = omega (arith, c .pre .within .data-to)
 
 eliminate-known-requires : tie.Need-eliminate-known-requires
-eliminate-known-requires c κs = (symbols-small (c .before .before), data-small (c .before .before .before .before .before .before .before))
+eliminate-known-requires c κs = (symbols-small (c .before .before), data-small (c .before .before .before .before .before .before .before .before .before))
 
 odd-pattern-requires : tie.Need-odd-pattern-requires
 odd-pattern-requires c κs =
@@ -102,7 +109,8 @@ pub plan-code-spec : {M : Type 1} → statement M
 plan-code-spec =
     tie.close
     (tie.spec
-    loss-of-plan-requires
+    lost-symbols-requires
+    loss-of-requires
     eliminate-known-requires
     odd-pattern-requires
     is-empty-requires

@@ -1,4 +1,4 @@
--- `planvectors::ruin` ends, its sum fits, and its slices keep their lengths. Assumes nothing.
+-- `planvectors::ruin` ends, and its slices keep their lengths. Assumes nothing.
 use mathlib.Core.Path.{_≡_}
 use Prim.Native.Nat.{_-_}
 use native.Mathlib.Omega.{arith}
@@ -7,10 +7,10 @@ use Rattle.planvectors.proofs.ruin.Statement.{statement}
 use Rattle.planvectors.proofs.ruin.Tie as tie
 
 abbrev Inv-loop : tie.InvT-loop
-Inv-loop «record» disk size stripe₀ whole₀ height first row₀ stripe whole row = (length stripe ≡ length stripe₀) × (length whole ≡ length whole₀)
+Inv-loop «record» disks size stripe₀ whole₀ symbols symbol₀ stripe whole symbol = (length stripe ≡ length stripe₀) × (length whole ≡ length whole₀)
 
 abbrev μ-loop : tie.MeasureT-loop
-μ-loop «record» disk size stripe₀ whole₀ height first row₀ stripe whole row = height - row
+μ-loop «record» disks size stripe₀ whole₀ symbols symbol₀ stripe whole symbol = symbols - symbol
 
 sheet-in-requires : tie.Need-sheet-in-requires Inv-loop μ-loop
 sheet-in-requires c κs = tt
@@ -18,20 +18,14 @@ sheet-in-requires c κs = tt
 byte-at-requires : tie.Need-byte-at-requires Inv-loop μ-loop
 byte-at-requires c κs = tt
 
-product-requires : tie.Need-product-requires Inv-loop μ-loop
-product-requires c κs = tt
-
 loop-holds : tie.Need-loop-holds Inv-loop μ-loop
 loop-holds c = omega arith
-
-add-ruin-symbol : tie.Need-add-ruin-symbol Inv-loop μ-loop
-add-ruin-symbol c = omega arith
 
 ruin-symbol-requires : tie.Need-ruin-symbol-requires Inv-loop μ-loop
 ruin-symbol-requires c κs = tt
 
-add-row : tie.Need-add-row Inv-loop μ-loop
-add-row c = omega arith
+add-symbol : tie.Need-add-symbol Inv-loop μ-loop
+add-symbol c = omega arith
 
 loop-less : tie.Need-loop-less Inv-loop μ-loop
 loop-less c = omega arith
@@ -56,11 +50,9 @@ ruin-spec =
     μ-loop
     sheet-in-requires
     byte-at-requires
-    product-requires
     loop-holds
-    add-ruin-symbol
     ruin-symbol-requires
-    add-row
+    add-symbol
     loop-less
     loop-again
     same-length

@@ -1,5 +1,7 @@
 //! The command line: named options, and the words that stand in order.
+use crate::disks::Disks;
 use crate::failure::Failure;
+use crate::lists::decimal;
 use crate::wanted::Request;
 use std::collections::VecDeque;
 use std::ffi::{OsStr, OsString};
@@ -96,6 +98,12 @@ impl Arguments {
         self.as_number(name, &word)
     }
 
+    /// The next word as the lost disks.
+    pub fn disks(&mut self, name: &str) -> Result<Disks, Failure> {
+        let word = self.word(name)?;
+        self.as_disks(name, &word)
+    }
+
     /// The value of an option as a file, if it is given.
     pub fn file_option(&mut self, name: &str) -> Result<Option<PathBuf>, Failure> {
         let value = self.option(name);
@@ -106,6 +114,12 @@ impl Arguments {
     pub fn number_option(&mut self, name: &str) -> Result<Option<u64>, Failure> {
         let value = self.option(name);
         value.map(|word| self.as_number(name, &word)).transpose()
+    }
+
+    /// The value of an option as the lost disks, if it is given.
+    pub fn disks_option(&mut self, name: &str) -> Result<Option<Disks>, Failure> {
+        let value = self.option(name);
+        value.map(|word| self.as_disks(name, &word)).transpose()
     }
 
     /// Whether a flag is given.
@@ -164,17 +178,18 @@ impl Arguments {
     }
 
     fn as_number(&self, name: &str, word: &OsStr) -> Result<u64, Failure> {
-        let text = word.to_str().unwrap_or("");
-        // `parse` would take a plus sign.
-        let digits = !text.is_empty() && text.bytes().all(|byte| byte.is_ascii_digit());
-        match text.parse() {
-            Ok(number) if digits => Ok(number),
-            _ => Err(self.misuse(format!(
-                "{name} must be a decimal number from 0 to {}, not '{}'",
-                u64::MAX,
-                shown(word)
-            ))),
-        }
+        let number = word.to_str().and_then(decimal);
+        let most = u64::MAX;
+        number.ok_or_else(|| {
+            self.misuse(format!("{name} must be a decimal number from 0 to {most}, not '{}'", shown(word)))
+        })
+    }
+
+    fn as_disks(&self, name: &str, word: &OsStr) -> Result<Disks, Failure> {
+        let disks = word.to_str().and_then(Disks::read);
+        disks.ok_or_else(|| {
+            self.misuse(format!("{name} must be a disk, like 3, or several, like 0,3 or 0-2, not '{}'", shown(word)))
+        })
     }
 }
 

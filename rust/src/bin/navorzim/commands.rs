@@ -1,13 +1,15 @@
 //! The commands. Each reads its files, asks the library, and answers the text for standard output.
 use crate::arguments::{shown, Arguments};
+use crate::disks::Disks;
 use crate::failure::{printable, Failure, Refused};
+use crate::lists::as_bytes;
 use crate::picture::{Picture, Story, Stuck};
 use crate::sheets::{counted, Code, Plan};
 use crate::stream::{self, Pieces};
 use crate::text::Style;
 use crate::wanted::{self, Request, Wanted};
 use crate::{demo, help, replacement, svg, text};
-use navorzim::{Family, Planning, Refusal};
+use navorzim::{Family, Planning, Refusal, WantedSymbol};
 use std::ffi::OsString;
 use std::path::{Path, PathBuf};
 
@@ -93,7 +95,7 @@ fn encode(arguments: &mut Arguments) -> Result<String, Failure> {
     let (symbol, output) = (arguments.symbol_length()?, arguments.output()?);
     arguments.finish()?;
     let code = Code::open(&code)?;
-    let explain = |refusal| code.explain(refusal, 0, None, symbol);
+    let explain = |refusal| code.explain(refusal, &Disks::NONE, None, symbol);
     // With no data the library refuses all that goes before the data's length, in its own order, and then that length.
     all_but(navorzim::encode(&code.sheet, symbol, &[], &mut []), Refusal::DataLength).map_err(explain)?;
     let mut stripe = vec![0; Pieces::stripes(&code, symbol).length()];
@@ -110,15 +112,15 @@ fn encode(arguments: &mut Arguments) -> Result<String, Failure> {
 }
 
 fn plan(arguments: &mut Arguments) -> Result<String, Failure> {
-    let (code, disk) = (arguments.file("CODE")?, arguments.number("DISK")?);
+    let (code, disks) = (arguments.file("CODE")?, arguments.disks("DISKS")?);
     let (request, output) = (arguments.wanted()?, arguments.output()?);
     arguments.finish()?;
     let code = Code::open(&code)?;
-    let (planning, wanted) = planned(&code, disk, request.as_ref())?;
+    let (planning, wanted) = planned(&code, &disks, request.as_ref())?;
     let (plan, reads) = match planning {
         Planning::Plan { plan, reads } => (plan, reads),
         Planning::Pattern(bits) => {
-            let stuck = stuck(&code, disk, wanted, bits);
+            let stuck = stuck(&code, disks, wanted, bits);
             let text = stuck.notes(&code).iter().map(|note| format!("{note}\n")).collect();
             return Err(no_plan(text, code, &stuck));
         }
@@ -131,37 +133,37 @@ fn plan(arguments: &mut Arguments) -> Result<String, Failure> {
         printable(&plan.file),
         counted(plan.steps().len(), "step"),
         counted(reads, "symbol"),
-        brings_back(&code, disk, &plan)
+        brings_back(&code, &disks, &plan)
     ))
 }
 
 fn check(arguments: &mut Arguments) -> Result<String, Failure> {
-    let (code, disk) = (arguments.file("CODE")?, arguments.number("DISK")?);
+    let (code, disks) = (arguments.file("CODE")?, arguments.disks("DISKS")?);
     let plan = arguments.file("PLAN")?;
     arguments.finish()?;
     let (code, plan) = (Code::open(&code)?, Plan::open(&plan)?);
-    let reads = checked(&code, disk, &plan)?;
-    Ok(format!("accepted, reads {}{}\n", counted(reads, "symbol"), brings_back(&code, disk, &plan)))
+    let reads = checked(&code, &disks, &plan)?;
+    Ok(format!("accepted, reads {}{}\n", counted(reads, "symbol"), brings_back(&code, &disks, &plan)))
 }
 
 /// Of a plan with a list: what it brings back.
-fn brings_back(code: &Code, disk: u64, plan: &Plan) -> String {
+fn brings_back(code: &Code, disks: &Disks, plan: &Plan) -> String {
     match plan.wanted() {
-        Wanted::Disk => String::new(),
-        wanted => format!(", brings back {}", wanted.words(code, disk)),
+        Wanted::All => String::new(),
+        wanted @ Wanted::Symbols(_) => format!(", brings back {}", wanted.words(code, disks)),
     }
 }
 
 fn rebuild(arguments: &mut Arguments) -> Result<String, Failure> {
-    let (code, disk) = (arguments.file("CODE")?, arguments.number("DISK")?);
+    let (code, disks) = (arguments.file("CODE")?, arguments.disks("DISKS")?);
     let (plan, stripes) = (arguments.file("PLAN")?, arguments.file("STRIPES")?);
     let symbol = arguments.symbol_length()?;
     let output = rebuilding_to(arguments)?;
     arguments.finish()?;
-    let (code, plan) = (Code::open(&code)?, Plan::open(&plan)?);
-    let explain = |refusal| code.explain(refusal, disk, Some(&plan), symbol);
+    let (code, plan, lost) = (Code::open(&code)?, Plan::open(&plan)?, disks.as_bytes());
+    let explain = |refusal| code.explain(refusal, &disks, Some(&plan), symbol);
     // As in `encode`: all that goes before the stripe's length.
-    all_but(navorzim::rebuild(&code.sheet, disk, &plan.sheet, symbol, &mut []), Refusal::StripeLength)
+    all_but(navorzim::rebuild_disks(&code.sheet, &lost, &plan.sheet, symbol, &mut []), Refusal::StripeLength)
         .map_err(explain)?;
     let count = stream::each(
         &stripes,
@@ -170,14 +172,14 @@ fn rebuild(arguments: &mut Arguments) -> Result<String, Failure> {
         &[&code.file, &plan.file],
         |stripe, output| {
             // The library checks the plan again, for every stripe: none is believed because it was once believed.
-            navorzim::rebuild(&code.sheet, disk, &plan.sheet, symbol, stripe).map_err(explain)?;
+            navorzim::rebuild_disks(&code.sheet, &lost, &plan.sheet, symbol, stripe).map_err(explain)?;
             output.write(stripe)
         },
     )?;
     // The library can't know which L, disk or code the stripes were made with, so the user is told what was believed.
     Ok(format!(
         "rebuilt {} in {}: {}\n  by symbols of {} (L), code {} ({})\n",
-        plan.wanted().words(&code, disk),
+        plan.wanted().words(&code, &disks),
         counted(count, "stripe"),
         printable(output.as_ref().unwrap_or(&stripes)),
         counted(symbol, "byte"),
@@ -203,7 +205,7 @@ fn strip(arguments: &mut Arguments) -> Result<String, Failure> {
     let (symbol, output) = (arguments.symbol_length()?, arguments.output()?);
     arguments.finish()?;
     let code = Code::open(&code)?;
-    let explain = |refusal| code.explain(refusal, disk, None, symbol);
+    let explain = |refusal| code.explain(refusal, &Disks::of([disk]), None, symbol);
     all_but(navorzim::strip(&code.sheet, disk, symbol, &[]).map(|_| ()), Refusal::StripeLength).map_err(explain)?;
     let count =
         stream::each(&stripes, &Pieces::stripes(&code, symbol), Some(&output), &[&code.file], |stripe, output| {
@@ -220,14 +222,14 @@ fn strip(arguments: &mut Arguments) -> Result<String, Failure> {
 
 fn show(arguments: &mut Arguments) -> Result<String, Failure> {
     let code = arguments.file("CODE")?;
-    let disk = arguments.number_option("--disk")?;
+    let disks = arguments.disks_option("--disk")?;
     let plan = arguments.file_option("--plan")?;
     let request = arguments.wanted()?;
     let drawing = arguments.file_option("--svg")?;
     arguments.finish()?;
-    let misuse = match (disk, &plan, &request) {
-        (None, Some(_), _) => "--plan needs --disk: which disk is lost isn't left to the plan",
-        (None, _, Some(_)) => "--want needs --disk: the disk that is lost",
+    let misuse = match (&disks, &plan, &request) {
+        (None, Some(_), _) => "--plan needs --disk: which disks are lost isn't left to the plan",
+        (None, _, Some(_)) => "--want needs --disk: the disks that are lost",
         (_, Some(_), Some(_)) => "--want and --plan exclude each other: a plan says itself what it wants",
         _ => "",
     };
@@ -235,10 +237,10 @@ fn show(arguments: &mut Arguments) -> Result<String, Failure> {
         return Err(arguments.misuse(misuse.to_string()));
     }
     let code = Code::open(&code)?;
-    let (story, refused) = match (disk, &plan) {
+    let (story, refused) = match (disks, &plan) {
         (None, _) => (Story::Code, None),
-        (Some(disk), None) => (planned_story(&code, disk, request.as_ref())?, None),
-        (Some(disk), Some(plan)) => judged_story(&code, disk, &Plan::open(plan)?)?,
+        (Some(disks), None) => (planned_story(&code, disks, request.as_ref())?, None),
+        (Some(disks), Some(plan)) => judged_story(&code, disks, &Plan::open(plan)?)?,
     };
     let picture = Picture::new(&code, &story);
     if let Some(drawing) = drawing {
@@ -253,74 +255,78 @@ fn show(arguments: &mut Arguments) -> Result<String, Failure> {
     }
 }
 
-/// What the planner says about a disk, or about the symbols that are asked for.
-fn planned(code: &Code, disk: u64, request: Option<&Request>) -> Result<(Planning, Wanted), Failure> {
-    let explain = |refusal| code.explain(refusal, disk, None, 0);
-    let Some(request) = request else {
-        return Ok((navorzim::plan(&code.sheet, disk).map_err(explain)?, Wanted::Disk));
-    };
-    let symbols = request.symbols(code, disk);
-    let planning = navorzim::plan_wanted(&code.sheet, disk, &wanted::as_bytes(&symbols));
-    let planning = planning.map_err(|refusal| match refusal {
-        Refusal::BadWantedList { position } => {
-            Failure::refused(refusal, wanted::fault(code, disk, &symbols, position), &code.file)
+/// What the planner says about lost disks, or about the symbols of them that are asked for.
+fn planned(code: &Code, disks: &Disks, request: Option<&Request>) -> Result<(Planning, Wanted), Failure> {
+    let symbols = request.map(|request| request.symbols(code, disks));
+    let planning = plan_for(code, disks, symbols.as_deref()).map_err(|refusal| match (refusal, &symbols) {
+        (Refusal::BadWantedList { position }, Some(symbols)) => {
+            Failure::refused(refusal, wanted::fault(code, disks, symbols, position), &code.file)
         }
-        _ => explain(refusal),
+        _ => code.explain(refusal, disks, None, 0),
     })?;
-    Ok((planning, Wanted::Symbols(symbols)))
+    Ok((planning, symbols.map_or(Wanted::All, Wanted::Symbols)))
+}
+
+/// The planner's answer: for one disk a sheet of edition 1, or of edition 2 with a list; for several disks one of edition 3.
+fn plan_for(code: &Code, disks: &Disks, symbols: Option<&[u64]>) -> Result<Planning, Refusal> {
+    match (disks.one(), symbols) {
+        (Some(disk), None) => navorzim::plan(&code.sheet, disk),
+        (Some(disk), Some(symbols)) => navorzim::plan_wanted(&code.sheet, disk, &as_bytes(symbols)),
+        (None, symbols) => navorzim::plan_disks(&code.sheet, &disks.as_bytes(), &as_bytes(symbols.unwrap_or(&[]))),
+    }
 }
 
 /// A pattern, with those of the wanted symbols that have a plan by themselves.
-fn stuck(code: &Code, disk: u64, wanted: Wanted, bits: u64) -> Stuck {
-    let has_plan = |&symbol: &u64| {
-        let planning = navorzim::plan_wanted(&code.sheet, disk, &wanted::as_bytes(&[symbol]));
-        matches!(planning, Ok(Planning::Plan { .. }))
-    };
-    let strip = (0..code.symbols() as u64).filter(|&s| code.disk_of(s as usize) as u64 == disk);
-    let within_reach = strip.filter(|&s| wanted.has(s as usize)).filter(has_plan).collect();
-    Stuck { disk: disk as usize, wanted, bits, within_reach }
+fn stuck(code: &Code, disks: Disks, wanted: Wanted, bits: u64) -> Stuck {
+    let has_plan = |&symbol: &u64| matches!(plan_for(code, &disks, Some(&[symbol])), Ok(Planning::Plan { .. }));
+    let lost = (0..code.symbols()).filter(|&symbol| disks.has(code.disk_of(symbol)) && wanted.has(symbol));
+    let within_reach = lost.map(|symbol| symbol as u64).filter(has_plan).collect();
+    Stuck { disks, wanted, bits, within_reach }
 }
 
 /// How a command ends that met a pattern.
 fn no_plan(text: String, code: Code, stuck: &Stuck) -> Failure {
-    let what = stuck.wanted.cannot_be_rebuilt(&code, stuck.disk as u64);
+    let what = stuck.wanted.cannot_be_rebuilt(&code, &stuck.disks);
     Failure::NoPlan { text, what, code: code.file }
 }
 
 /// How many symbols a plan reads, if it is accepted.
-fn checked(code: &Code, disk: u64, plan: &Plan) -> Result<u64, Failure> {
-    let reads = navorzim::check(&code.sheet, disk, &plan.sheet);
-    reads.map_err(|refusal| code.explain(refusal, disk, Some(plan), 0))
+fn checked(code: &Code, disks: &Disks, plan: &Plan) -> Result<u64, Failure> {
+    let reads = navorzim::check_disks(&code.sheet, &disks.as_bytes(), &plan.sheet);
+    reads.map_err(|refusal| code.explain(refusal, disks, Some(plan), 0))
 }
 
 /// The planner's answer as a story; its plan is checked like any other.
-fn planned_story(code: &Code, disk: u64, request: Option<&Request>) -> Result<Story, Failure> {
-    match planned(code, disk, request)? {
-        (Planning::Pattern(bits), wanted) => Ok(Story::Stuck(stuck(code, disk, wanted, bits))),
+fn planned_story(code: &Code, disks: Disks, request: Option<&Request>) -> Result<Story, Failure> {
+    match planned(code, &disks, request)? {
+        (Planning::Pattern(bits), wanted) => Ok(Story::Stuck(stuck(code, disks, wanted, bits))),
         (Planning::Plan { plan, .. }, _) => {
             let plan = Plan { file: code.file.clone(), sheet: plan };
-            checked_story(code, disk, &plan)
+            checked_story(code, disks, &plan)
         }
     }
 }
 
 /// A given plan as a story: an accepted one, or one that ends wrong, with its refusal.
-fn judged_story(code: &Code, disk: u64, plan: &Plan) -> Result<(Story, Option<Refused>), Failure> {
-    match navorzim::check(&code.sheet, disk, &plan.sheet) {
-        Err(refusal @ Refusal::EndsWrong { row, .. }) => {
-            let symbol = disk as usize * code.rows + row as usize;
-            let story = Story::Wrong { disk: disk as usize, wanted: plan.wanted(), steps: plan.steps(), symbol };
+fn judged_story(code: &Code, disks: Disks, plan: &Plan) -> Result<(Story, Option<Refused>), Failure> {
+    match navorzim::check_disks(&code.sheet, &disks.as_bytes(), &plan.sheet) {
+        Err(refusal @ Refusal::EndsWrong { wanted, .. }) => {
+            let symbol = match wanted {
+                WantedSymbol::Row(row) => disks.iter().next().unwrap_or(0) * code.rows as u64 + row,
+                WantedSymbol::Symbol(symbol) => symbol,
+            };
+            let story = Story::Wrong { disks, wanted: plan.wanted(), steps: plan.steps(), symbol: symbol as usize };
             let refused = Refused { refusal, detail: String::new(), file: Some(plan.file.clone()) };
             Ok((story, Some(refused)))
         }
-        _ => Ok((checked_story(code, disk, plan)?, None)),
+        _ => Ok((checked_story(code, disks, plan)?, None)),
     }
 }
 
 /// An accepted plan as a story.
-fn checked_story(code: &Code, disk: u64, plan: &Plan) -> Result<Story, Failure> {
-    let reads = checked(code, disk, plan)?;
-    Ok(Story::Plan { disk: disk as usize, wanted: plan.wanted(), reads, steps: plan.steps() })
+fn checked_story(code: &Code, disks: Disks, plan: &Plan) -> Result<Story, Failure> {
+    let reads = checked(code, &disks, plan)?;
+    Ok(Story::Plan { disks, wanted: plan.wanted(), reads, steps: plan.steps() })
 }
 
 /// Any refusal but the one that a call without bytes must end in.

@@ -8,8 +8,8 @@ usage: navorzim COMMAND ..
   demo      loses a disk of a small array and brings it back, in front of you
   family    writes the code sheet of a known code
   encode    makes stripes of data
-  plan      plans how to rebuild a disk, or some of its rows, or shows why it can't be done
-  check     judges a plan for a code and a disk
+  plan      plans how to rebuild disks, or some of their rows, or shows why it can't be done
+  check     judges a plan for a code and the lost disks
   rebuild   rebuilds what a plan wants in a file of stripes; the plan is checked first
   strip     takes a disk's strips out of a file of stripes
   show      draws a code, a plan, or why there is none
@@ -18,6 +18,7 @@ usage: navorzim COMMAND ..
 A code has n disks of r symbols, N = n × r, and K data symbols; a symbol is L bytes.
 A stripe is N × L bytes, symbol (disk × r + row) after symbol.
 
+DISKS are the lost disks: one, like 3, or several, like 0,3 or 0-2, in any order.
 Numbers are decimal. `--` ends the options. Standard input and output can't be named by -.
 A file that is written takes the old one's place when it is complete; until then, and
 after any refusal, the old one is as it was. Files are locked (flock) while they are worked
@@ -73,55 +74,63 @@ example: navorzim encode code.sheet --symbol 64 register.txt -o stripes.bin
 ";
 
 pub const PLAN: &str = "\
-usage: navorzim plan CODE DISK [--want LIST] -o PLAN
+usage: navorzim plan CODE DISKS [--want LIST] -o PLAN
 
-Reads the code sheet CODE; writes the plan sheet PLAN, by which disk DISK can be rebuilt.
-If no plan can do that, says so, prints the pattern that shows it, writes no file and ends
-with status 1: data that differs by the pattern gives the same bytes on all surviving disks.
+Reads the code sheet CODE; writes the plan sheet PLAN, by which the lost disks DISKS can be
+rebuilt: one, like 3, or several, like 0,3. If no plan can do that, says so, prints the pattern
+that shows it, writes no file and ends with status 1: data that differs by the pattern gives the
+same bytes on all surviving disks.
 
-  --want LIST  plans for these symbols of the disk only: it may read fewer symbols, and may be
-               possible where the whole disk is beyond help. LIST is rows of the disk, 0,2 or
-               0-2, or symbols by number, s5,s7 or s5-s7, or both, separated by commas. Their
-               order doesn't matter, and what is named twice counts once. Without --want the
-               whole disk is wanted.
+  --want LIST  plans for these symbols of the disks only: it may read fewer symbols, and may be
+               possible where whole disks are beyond help. LIST is rows, 0,2 or 0-2, of each of
+               the disks, or symbols by number, s5,s7 or s5-s7, or both, separated by commas.
+               Their order doesn't matter, and what is named twice counts once. Without --want
+               the whole disks are wanted.
 
-Refused: the code sheet (1 to 6), 7 (no such disk), 23 (more symbols than the disk has, or one
-that isn't on it; its place counts the wanted symbols from the lowest, from 0).
+A plan for one disk is a sheet of edition 1, with --want of edition 2; one for several disks is
+a sheet of edition 3.
+
+Refused: the code sheet (1 to 6), 7 (no such disk), 23 (more symbols than the disks have, or one
+that isn't on them; its place counts the wanted symbols from the lowest, from 0).
 
 example: navorzim plan code.sheet 0 -o plan.sheet
+example: navorzim plan code.sheet 0,3 -o both.sheet
 example: navorzim plan code.sheet 0 --want 2,4 -o rows.sheet
 ";
 
 pub const CHECK: &str = "\
-usage: navorzim check CODE DISK PLAN
+usage: navorzim check CODE DISKS PLAN
 
-Reads the code sheet CODE and the plan sheet PLAN, and judges whether the plan brings disk
-DISK, or the symbols that it lists, back for every stripe of this code; says how many surviving
-symbols it reads, and which rows of the disk it brings back if it lists some.
+Reads the code sheet CODE and the plan sheet PLAN, and judges whether the plan brings the lost
+disks DISKS, one like 3 or several like 0,3, or the symbols that it lists, back for every stripe
+of this code; says how many surviving symbols it reads, and which rows it brings back if it
+lists some. A plan is for the very disks that it was made for, no more and no fewer.
 
-Refused: the code sheet (1 to 6), 7 (no such disk), the plan (11 to 25).
+Refused: the code sheet (1 to 6), 7 (no such disk), the plan (7 and 11 to 25).
 
 example: navorzim check code.sheet 0 plan.sheet
+example: navorzim check code.sheet 0,3 both.sheet
 ";
 
 pub const REBUILD: &str = "\
-usage: navorzim rebuild CODE DISK PLAN --symbol L STRIPES -o OUT
-       navorzim rebuild CODE DISK PLAN --symbol L STRIPES --in-place
+usage: navorzim rebuild CODE DISKS PLAN --symbol L STRIPES -o OUT
+       navorzim rebuild CODE DISKS PLAN --symbol L STRIPES --in-place
 
 Reads the code sheet CODE, the plan sheet PLAN and the stripes of N × L bytes in STRIPES;
-writes them with the strip of disk DISK rebuilt in each to OUT or, if --in-place asks for it,
-in place of STRIPES. A plan made with --want rebuilds the rows that it lists; the disk's other
-rows stay as they are. The plan is checked for every stripe; what the lost strip holds doesn't
-matter.
+writes them with the strips of the lost disks DISKS, one like 3 or several like 0,3, rebuilt in
+each to OUT or, if --in-place asks for it, in place of STRIPES. A plan made with --want rebuilds
+the rows that it lists; the disks' other rows stay as they are. The plan is checked for every
+stripe; what the lost strips hold doesn't matter.
 
 A wrong L, disk or code is refused only where the lengths or the plan don't fit it. Where they
-do, good symbols are overwritten: the answer says which L, disk and code were used, so keep
+do, good symbols are overwritten: the answer says which L, disks and code were used, so keep
 STRIPES until it has been read.
 
-Refused: the code sheet (1 to 6), 7 (no such disk), the plan (11 to 25), 31 (L is 1 to
+Refused: the code sheet (1 to 6), 7 (no such disk), the plan (7 and 11 to 25), 31 (L is 1 to
 65,536), 32 (STRIPES isn't whole stripes). STRIPES is then as it was.
 
 example: navorzim rebuild code.sheet 0 plan.sheet --symbol 64 stripes.bin -o rebuilt.bin
+example: navorzim rebuild code.sheet 0,3 both.sheet --symbol 64 stripes.bin -o rebuilt.bin
 example: navorzim rebuild code.sheet 0 plan.sheet --symbol 64 stripes.bin --in-place
 ";
 
@@ -138,23 +147,26 @@ example: navorzim strip code.sheet 0 --symbol 64 stripes.bin -o disk0.bin
 ";
 
 pub const SHOW: &str = "\
-usage: navorzim show CODE [--disk D] [--plan PLAN | --want LIST] [--svg FILE]
+usage: navorzim show CODE [--disk DISKS] [--plan PLAN | --want LIST] [--svg FILE]
 
 Reads the code sheet CODE and draws it: disks as columns, rows as cells.
 
-  --disk D     disk D is lost: plans its rebuild and draws what is read and the steps, or,
-               with status 1, the pattern that shows why no plan can be
-  --plan PLAN  draws this plan for disk D instead; it is checked first. One that ends wrong (21)
-               is drawn with the row that does and the data symbol that is off, with status 1
-  --want LIST  plans for these symbols of disk D only, as plan --want does; the lost symbols
-               that aren't wanted are drawn apart
+  --disk DISKS these disks are lost, one like 3 or several like 0,3: plans their rebuild and
+               draws what is read and the steps, or, with status 1, the pattern that shows why
+               no plan can be
+  --plan PLAN  draws this plan for the lost disks instead; it is checked first. One that ends
+               wrong (21) is drawn with the symbol that does and the data symbol that is off,
+               with status 1
+  --want LIST  plans for these symbols of the lost disks only, as plan --want does; the lost
+               symbols that aren't wanted are drawn apart
   --svg FILE   writes the picture to FILE besides
 
 Colours appear on a terminal, unless NO_COLOR is set; COLUMNS sets the width (else the
 terminal's own, or 80).
 
-Refused: the code sheet (1 to 6), 7 (no such disk), the plan (11 to 25), the list (23).
+Refused: the code sheet (1 to 6), 7 (no such disk), the plan (7 and 11 to 25), the list (23).
 
 example: navorzim show code.sheet --disk 0 --svg plan.svg
+example: navorzim show code.sheet --disk 0,3
 example: navorzim show code.sheet --disk 0 --want 2
 ";

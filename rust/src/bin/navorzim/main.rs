@@ -6,9 +6,11 @@
 mod arguments;
 mod commands;
 mod demo;
+mod disks;
 mod failure;
 mod files;
 mod help;
+mod lists;
 mod picture;
 mod replacement;
 mod rights;

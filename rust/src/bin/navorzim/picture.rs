@@ -1,24 +1,25 @@
 //! A model of what is drawn: disks as columns, rows as cells, and what happens to each symbol. Text and SVG draw the same model.
+use crate::disks::Disks;
 use crate::sheets::{counted, members, Code, Step};
-use crate::wanted::{rows, Wanted};
+use crate::wanted::{places, rows, Wanted};
 
 /// What is told about the code.
 #[derive(Debug)]
 pub enum Story {
     /// the code alone
     Code,
-    /// an accepted plan for a lost disk, or for some of its symbols
-    Plan { disk: usize, wanted: Wanted, reads: u64, steps: Vec<Step> },
-    /// a plan for a lost disk that is refused, because this symbol ends wrong
-    Wrong { disk: usize, wanted: Wanted, steps: Vec<Step>, symbol: usize },
+    /// an accepted plan for lost disks, or for some of their symbols
+    Plan { disks: Disks, wanted: Wanted, reads: u64, steps: Vec<Step> },
+    /// a plan for lost disks that is refused, because this symbol ends wrong
+    Wrong { disks: Disks, wanted: Wanted, steps: Vec<Step>, symbol: usize },
     /// no plan can be
     Stuck(Stuck),
 }
 
-/// Wanted symbols of a lost disk that no plan brings back, all of them.
+/// Wanted symbols of lost disks that no plan brings back, all of them.
 #[derive(Debug)]
 pub struct Stuck {
-    pub disk: usize,
+    pub disks: Disks,
     pub wanted: Wanted,
     /// the pattern: the data symbols that show it
     pub bits: u64,
@@ -33,7 +34,7 @@ pub enum Mark {
     Data,
     /// a sum
     Sum,
-    /// lost, and rebuilt by a plan for the whole disk
+    /// lost, and rebuilt by a plan for whole disks
     Lost,
     /// lost, and rebuilt by a plan for some symbols
     Wanted,
@@ -134,7 +135,8 @@ pub struct Picture {
     pub cells: Vec<Cell>,
     /// what each disk is for, where the code is a known one
     pub roles: Vec<Option<&'static str>>,
-    pub lost: Option<usize>,
+    /// the lost disks
+    pub lost: Disks,
     /// the wanted symbols that a plan brings back, and the surviving symbols that each is the sum of
     pub sums: Vec<(usize, u64)>,
     pub steps: Vec<Step>,
@@ -152,14 +154,15 @@ impl Picture {
             cells: cells.collect(),
             roles: (0..code.disks).map(|disk| code.role(disk)).collect(),
             sums: match story {
-                Story::Plan { disk, wanted, steps, .. } | Story::Wrong { disk, wanted, steps, .. } => {
-                    brought_back(code, *disk, wanted, steps)
+                Story::Plan { disks, wanted, steps, .. } | Story::Wrong { disks, wanted, steps, .. } => {
+                    brought_back(code, disks, wanted, steps)
                 }
                 Story::Code | Story::Stuck(_) => Vec::new(),
             },
             lost: match story {
-                Story::Code => None,
-                Story::Plan { disk, .. } | Story::Wrong { disk, .. } | Story::Stuck(Stuck { disk, .. }) => Some(*disk),
+                Story::Code => Disks::NONE,
+                Story::Plan { disks, .. } | Story::Wrong { disks, .. } => disks.clone(),
+                Story::Stuck(stuck) => stuck.disks.clone(),
             },
             steps: match story {
                 Story::Plan { steps, .. } | Story::Wrong { steps, .. } => steps.clone(),
@@ -199,13 +202,13 @@ impl Picture {
 
 fn mark(code: &Code, story: &Story, symbol: usize) -> Mark {
     let sum = code.sums.get(symbol).copied().unwrap_or(0);
-    let lost = |disk: usize| code.disk_of(symbol) == disk;
+    let lost = |disks: &Disks| disks.has(code.disk_of(symbol));
     match story {
         Story::Code if sum.count_ones() == 1 => Mark::Data,
         Story::Code => Mark::Sum,
         Story::Wrong { symbol: wrong, .. } if *wrong == symbol => Mark::Wrong,
-        Story::Plan { disk, wanted, .. } | Story::Wrong { disk, wanted, .. } if lost(*disk) => match wanted {
-            Wanted::Disk => Mark::Lost,
+        Story::Plan { disks, wanted, .. } | Story::Wrong { disks, wanted, .. } if lost(disks) => match wanted {
+            Wanted::All => Mark::Lost,
             Wanted::Symbols(_) if wanted.has(symbol) => Mark::Wanted,
             Wanted::Symbols(_) => Mark::Unwanted,
         },
@@ -213,7 +216,7 @@ fn mark(code: &Code, story: &Story, symbol: usize) -> Mark {
             Mark::Read
         }
         Story::Plan { .. } | Story::Wrong { .. } => Mark::Idle,
-        Story::Stuck(stuck) => match (lost(stuck.disk), sum & stuck.bits) {
+        Story::Stuck(stuck) => match (lost(&stuck.disks), sum & stuck.bits) {
             (true, _) if !stuck.wanted.has(symbol) => Mark::Unwanted,
             (true, common) if common.count_ones() % 2 == 1 => Mark::Differs,
             (true, _) => Mark::Same,
@@ -224,7 +227,7 @@ fn mark(code: &Code, story: &Story, symbol: usize) -> Mark {
 }
 
 /// What the steps of an accepted plan make of the survivors, symbol by symbol. A symbol that is added twice cancels out.
-fn brought_back(code: &Code, disk: usize, wanted: &Wanted, steps: &[Step]) -> Vec<(usize, u64)> {
+fn brought_back(code: &Code, disks: &Disks, wanted: &Wanted, steps: &[Step]) -> Vec<(usize, u64)> {
     let mut sums: Vec<u64> = (0..64).map(|symbol| 1 << symbol).collect();
     for step in steps {
         let (target, source) = (usize::from(step.target), usize::from(step.source));
@@ -237,7 +240,7 @@ fn brought_back(code: &Code, disk: usize, wanted: &Wanted, steps: &[Step]) -> Ve
             };
         }
     }
-    let lost = (0..code.symbols()).filter(|&symbol| code.disk_of(symbol) == disk && wanted.has(symbol));
+    let lost = (0..code.symbols()).filter(|&symbol| disks.has(code.disk_of(symbol)) && wanted.has(symbol));
     lost.map(|symbol| (symbol, sums[symbol])).collect()
 }
 
@@ -249,24 +252,29 @@ fn reads(step: &Step, symbol: usize) -> bool {
 fn notes(code: &Code, story: &Story) -> Vec<String> {
     match story {
         Story::Code => Vec::new(),
-        Story::Plan { disk, wanted, reads, steps } => {
-            let survivors = code.symbols() - code.rows.min(code.symbols());
+        Story::Plan { disks, wanted, reads, steps } => {
+            let survivors = code.symbols().saturating_sub(code.rows * disks.count());
             let plan = match wanted {
-                Wanted::Disk => "The plan".to_string(),
-                Wanted::Symbols(symbols) => format!("The plan for its {}", rows(code, symbols)),
+                Wanted::All => "The plan".to_string(),
+                Wanted::Symbols(symbols) => format!("The plan for {}", of_them(code, disks, symbols)),
             };
             vec![format!(
-                "Disk {disk} is lost. {plan}, checked: {}, reads {reads} of {}.",
+                "{}. {plan}, checked: {}, reads {reads} of {}.",
+                disks.are_lost(),
                 counted(steps.len(), "step"),
                 counted(survivors, "surviving symbol")
             )]
         }
-        Story::Wrong { disk, wanted, steps, symbol } => {
-            let (is, made) = (code.sums[*symbol], made_of(code, *disk, wanted, steps, *symbol));
+        Story::Wrong { disks, wanted, steps, symbol } => {
+            let (is, made) = (code.sums[*symbol], made_of(code, disks, wanted, steps, *symbol));
             let off: Vec<String> = members(is ^ made).map(|t| format!("d{t}")).collect();
             let others = if off.len() > 1 { format!(", and {}", off[1..].join(" ")) } else { String::new() };
+            let place = match disks.one() {
+                Some(_) => rows(code, &[*symbol as u64]),
+                None => places(code, &[*symbol as u64]),
+            };
             vec![
-                format!("Disk {disk} is lost. The plan is refused: row {} ends wrong.", code.row_of(*symbol)),
+                format!("{}. The plan is refused: {place} ends wrong.", disks.are_lost()),
                 format!(
                     "Symbol {symbol} is {}, and the steps make {} of it: {} is off{others}.",
                     spelled(is, " + "),
@@ -279,9 +287,17 @@ fn notes(code: &Code, story: &Story) -> Vec<String> {
     }
 }
 
+/// Some symbols of lost disks that have just been named: `its row 2`, or `disk 1 row 2 and disk 3 rows 0 2`.
+fn of_them(code: &Code, disks: &Disks, symbols: &[u64]) -> String {
+    match disks.one() {
+        Some(_) => format!("its {}", rows(code, symbols)),
+        None => places(code, symbols),
+    }
+}
+
 /// The data symbols that the steps make a lost symbol the sum of.
-fn made_of(code: &Code, disk: usize, wanted: &Wanted, steps: &[Step], symbol: usize) -> u64 {
-    let sums = brought_back(code, disk, wanted, steps);
+fn made_of(code: &Code, disks: &Disks, wanted: &Wanted, steps: &[Step], symbol: usize) -> u64 {
+    let sums = brought_back(code, disks, wanted, steps);
     let sources = sums.iter().find(|(brought, _)| *brought == symbol).map_or(0, |&(_, sources)| sources);
     members(sources).fold(0, |sum, source| sum ^ code.sums.get(source).copied().unwrap_or(0))
 }
@@ -289,37 +305,48 @@ fn made_of(code: &Code, disk: usize, wanted: &Wanted, steps: &[Step], symbol: us
 impl Stuck {
     /// Why no plan can be: what the pattern is, what it shows, and what is left to be done.
     pub fn notes(&self, code: &Code) -> Vec<String> {
-        let Stuck { disk, bits, .. } = self;
+        let Stuck { disks, bits, .. } = self;
         let beyond = match &self.wanted {
-            Wanted::Disk => "it".to_string(),
-            Wanted::Symbols(symbols) if symbols.len() == 1 => format!("its {}", rows(code, symbols)),
-            Wanted::Symbols(symbols) => format!("all of its {}", rows(code, symbols)),
+            Wanted::All if disks.count() == 1 => "it".to_string(),
+            Wanted::All => "all of them".to_string(),
+            Wanted::Symbols(symbols) if symbols.len() == 1 => of_them(code, disks, symbols),
+            Wanted::Symbols(symbols) => format!("all of {}", of_them(code, disks, symbols)),
+        };
+        let agree = match disks.count() < code.disks {
+            true => "agree on all surviving disks, not on",
+            false => "differ, with no surviving disk to tell by, on",
         };
         let mut notes = vec![
-            format!("Disk {disk} is lost, and no plan can bring {beyond} back."),
+            format!("{}, and no plan can bring {beyond} back.", disks.are_lost()),
             format!(
                 "The pattern is {bits}, bits {:0width$b} (bit 0 last): {}.",
                 bits,
                 homes(code, *bits),
                 width = code.data
             ),
-            format!(
-                "Stripes that differ by it agree on all surviving disks, not on disk {disk} {}.",
-                rows(code, &self.differing(code))
-            ),
+            format!("Stripes that differ by it {agree} {}.", places(code, &self.differing(code))),
         ];
         if !self.within_reach.is_empty() {
-            let listed = rows(code, &self.within_reach);
-            let want: Vec<&str> = listed.split(' ').skip(1).collect();
-            notes.push(format!("A plan can bring its {listed} back: --want {}.", want.join(",")));
+            let back = of_them(code, disks, &self.within_reach);
+            notes.push(format!("A plan can bring {back} back: --want {}.", self.request(code)));
         }
         notes
+    }
+
+    /// What `--want` takes for the symbols within reach: rows of one disk, or symbols of several.
+    fn request(&self, code: &Code) -> String {
+        let item = |&symbol: &u64| match self.disks.one() {
+            Some(_) => code.row_of(symbol as usize).to_string(),
+            None => format!("s{symbol}"),
+        };
+        let items: Vec<String> = self.within_reach.iter().map(item).collect();
+        items.join(",")
     }
 
     /// The wanted symbols that differ in stripes that differ by the pattern.
     fn differing(&self, code: &Code) -> Vec<u64> {
         let odd = |&symbol: &usize| (code.sums[symbol] & self.bits).count_ones() % 2 == 1;
-        let lost = (0..code.symbols()).filter(|&symbol| code.disk_of(symbol) == self.disk);
+        let lost = (0..code.symbols()).filter(|&symbol| self.disks.has(code.disk_of(symbol)));
         lost.filter(|&symbol| self.wanted.has(symbol)).filter(odd).map(|symbol| symbol as u64).collect()
     }
 }

@@ -1,9 +1,11 @@
 //! What stands in the sheets, for messages and pictures. The library alone judges them; these readers come after it.
+use crate::disks::Disks;
 use crate::failure::{Failure, Refused};
 use crate::files::read_sheet;
 use crate::wanted::{self, Wanted};
 use navorzim::{Family, Refusal, LONGEST_CODE_SHEET, PLAN_BUFFER};
 use std::fmt::{self, Display};
+use std::ops::Range;
 use std::path::{Path, PathBuf};
 
 /// A code sheet that the library takes, and what it says.
@@ -134,18 +136,19 @@ impl Code {
         (old.disks, old.data, old.sums) == (self.disks, self.data, self.sums.clone())
     }
 
-    /// The refusal of a disk, a plan or a symbol length, with the numbers at fault and the file that holds them.
-    pub fn explain(&self, refusal: Refusal, disk: u64, plan: Option<&Plan>, symbol: u64) -> Failure {
+    /// The refusal of disks, a plan or a symbol length, with the numbers at fault and the file that holds them.
+    pub fn explain(&self, refusal: Refusal, disks: &Disks, plan: Option<&Plan>, symbol: u64) -> Failure {
         let own = Some(self.file.clone());
         let planned = plan.map(|plan| plan.file.clone());
-        let (detail, file) = match refusal {
-            Refusal::NoSuchDisk => {
+        let beyond = disks.iter().find(|&disk| disk >= self.disks as u64);
+        let (detail, file) = match (refusal, beyond) {
+            (Refusal::NoSuchDisk, Some(disk)) => {
                 let last = self.disks.saturating_sub(1);
                 (format!("asked for {disk}, it has 0 to {last}"), own)
             }
-            Refusal::SymbolLength => (format!("asked for {symbol}"), None),
+            (Refusal::SymbolLength, _) => (format!("asked for {symbol}"), None),
             _ => {
-                let detail = plan.map_or(String::new(), |plan| plan.detail(refusal, disk, self));
+                let detail = plan.map_or(String::new(), |plan| plan.detail(refusal, disks, self));
                 (detail, planned.or(own))
             }
         };
@@ -158,6 +161,15 @@ impl Code {
 pub struct Plan {
     pub file: PathBuf,
     pub sheet: Vec<u8>,
+}
+
+/// Where the parts of a plan sheet lie, if it has an edition that the rules know: the read count, the failed disks, the wanted symbols
+/// (edition 1 has no such list), and the first step.
+struct Sections {
+    reads: usize,
+    disks: Range<usize>,
+    wanted: Option<Range<usize>>,
+    steps: usize,
 }
 
 /// One step of a plan.
@@ -174,31 +186,68 @@ impl Plan {
         Ok(Plan { file: file.to_path_buf(), sheet: read_sheet(file, PLAN_BUFFER)? })
     }
 
-    /// The list of wanted symbols, as far as the sheet goes; edition 1 has none.
-    fn list(&self) -> Option<Vec<u64>> {
-        let [6, 2, _, _, _, _, _, count, rest @ ..] = &self.sheet[..] else { return None };
-        Some(rest.iter().take(usize::from(*count)).map(|&symbol| u64::from(symbol)).collect())
+    fn byte(&self, at: usize) -> u8 {
+        self.sheet.get(at).copied().unwrap_or(0)
     }
 
-    /// What an accepted plan wants.
+    fn sections(&self) -> Option<Sections> {
+        let count = |at: usize| usize::from(self.byte(at));
+        match self.sheet[..] {
+            [6, 1, ..] => Some(Sections { reads: 6, disks: 5..6, wanted: None, steps: 9 }),
+            [6, 2, ..] => {
+                let wanted = 8..8 + count(7);
+                Some(Sections { reads: 6, disks: 5..6, steps: wanted.end + 2, wanted: Some(wanted) })
+            }
+            [5, 3, ..] => {
+                let disks = 7..7 + count(6);
+                let wanted = disks.end + 1..disks.end + 1 + count(disks.end);
+                Some(Sections { reads: 5, disks, steps: wanted.end + 2, wanted: Some(wanted) })
+            }
+            // The library refuses it, with 11, 13 or 14.
+            _ => None,
+        }
+    }
+
+    /// A list of the sheet, as far as the sheet goes.
+    fn list(&self, at: Option<Range<usize>>) -> Vec<u64> {
+        let Range { start, end } = at.unwrap_or(0..0);
+        let end = end.min(self.sheet.len());
+        self.sheet.get(start..end).unwrap_or(&[]).iter().map(|&entry| u64::from(entry)).collect()
+    }
+
+    /// The disks that it is for.
+    fn disks(&self) -> Vec<u64> {
+        self.list(self.sections().map(|sections| sections.disks))
+    }
+
+    /// The list of wanted symbols.
+    fn wanted_list(&self) -> Vec<u64> {
+        self.list(self.sections().and_then(|sections| sections.wanted))
+    }
+
+    /// What an accepted plan wants: without a list, or with the empty one of edition 3, everything.
     pub fn wanted(&self) -> Wanted {
-        self.list().map_or(Wanted::Disk, Wanted::Symbols)
+        match self.wanted_list() {
+            list if list.is_empty() => Wanted::All,
+            list => Wanted::Symbols(list),
+        }
     }
 
     /// The steps, as many as there are whole.
     pub fn steps(&self) -> Vec<Step> {
-        let first = self.list().map_or(9, |list| 10 + list.len());
+        let first = self.sections().map_or(self.sheet.len(), |sections| sections.steps);
         let steps = self.sheet.get(first..).unwrap_or(&[]).chunks_exact(3);
         steps.map(|step| Step { kind: step[0], target: step[1], source: step[2] }).collect()
     }
 
     /// What a refusal's sentence leaves open.
-    fn detail(&self, refusal: Refusal, disk: u64, code: &Code) -> String {
-        let byte = |at: usize| self.sheet.get(at).copied().unwrap_or(0);
+    fn detail(&self, refusal: Refusal, asked: &Disks, code: &Code) -> String {
+        let byte = |at: usize| self.byte(at);
         match refusal {
             Refusal::PlanSheetTooShort | Refusal::PlanSheetTooLong => {
                 format!("it has {} bytes", length(&self.sheet, PLAN_BUFFER))
             }
+            Refusal::PlanSheetEdition => format!("it is {} with first byte {}", byte(1), byte(0)),
             Refusal::PlanOfAnotherCode => format!(
                 "the plan has n {}, r {}, K {}, the code {}, {}, {}",
                 byte(2),
@@ -208,17 +257,38 @@ impl Plan {
                 code.rows,
                 code.data
             ),
-            Refusal::PlanOfAnotherDisk => format!("the plan has {}, asked is {disk}", byte(5)),
+            Refusal::NoSuchDisk => self.disk_beyond(code),
+            Refusal::BadDiskList { position } => self.disk_fault(position, code),
+            Refusal::PlanOfAnotherDisk => {
+                format!("the plan is for {}, not for {}", Disks::of(self.disks()).words(), asked.words())
+            }
             Refusal::MalformedStep { step }
             | Refusal::TargetNotWanted { step }
             | Refusal::StepOntoItself { step }
             | Refusal::UnfilledPlaceUsed { step } => self.step_detail(step),
-            Refusal::PlanSheetEdition => format!("it is {}", byte(1)),
-            Refusal::WrongReadCount { .. } => format!("the plan says {}", byte(6)),
-            Refusal::BadWantedList { position } => {
-                wanted::fault(code, disk, &self.list().unwrap_or_default(), position)
+            Refusal::WrongReadCount { .. } => {
+                let stated = self.sections().map_or(0, |sections| byte(sections.reads));
+                format!("the plan says {stated}")
             }
+            Refusal::BadWantedList { position } => wanted::fault(code, asked, &self.wanted_list(), position),
+            // What the library can't answer to a plan, and what says everything itself.
             _ => String::new(),
+        }
+    }
+
+    /// Which disk of the plan's list the array doesn't have.
+    fn disk_beyond(&self, code: &Code) -> String {
+        let beyond = self.disks().into_iter().find(|&disk| disk >= code.disks as u64);
+        let last = code.disks.saturating_sub(1);
+        beyond.map_or(String::new(), |disk| format!("the plan lists {disk}, the array has 0 to {last}"))
+    }
+
+    /// What is wrong with the plan's list of disks, as the refusal's place says.
+    fn disk_fault(&self, position: u64, code: &Code) -> String {
+        let (disks, at) = (self.disks(), usize::try_from(position).unwrap_or(usize::MAX));
+        match (disks.get(at), disks.get(at.wrapping_sub(1))) {
+            (Some(disk), Some(before)) => format!("it is disk {disk}, after disk {before}"),
+            _ => format!("it has {}, the array has {}", counted(disks.len(), "disk"), code.disks),
         }
     }
 

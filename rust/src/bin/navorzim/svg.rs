@@ -161,7 +161,7 @@ impl Page {
 
     /// A disk's number above its column and, where it is known, what the disk is for.
     fn disk_head(&mut self, picture: &Picture, disk: usize, x: f64) {
-        let ink = if picture.lost == Some(disk) { "#a3211d" } else { SOFT_INK };
+        let ink = if picture.lost.has(disk) { "#a3211d" } else { SOFT_INK };
         let at = Text { x, y: self.y, size: 13.0, ink, face: Face::Bold, anchor: "middle" };
         self.text(at, &format!("disk {disk}"));
         let role = match picture.role(disk) {

@@ -135,8 +135,7 @@ impl Labelling {
 fn grid(picture: &Picture, labelling: &Labelling, disks: &[usize], style: Style) -> Vec<String> {
     let width = labelling.cell_width();
     let heads = disks.iter().map(|disk| {
-        let lost = picture.lost == Some(*disk);
-        let head = format!("disk {disk}{}", if lost { " ×" } else { "" });
+        let head = format!("disk {disk}{}", if picture.lost.has(*disk) { " ×" } else { "" });
         format!("{head:^width$} ")
     });
     let heads: String = heads.collect();
@@ -170,7 +169,7 @@ fn legend(picture: &Picture, labelling: &Labelling, style: Style) -> Vec<String>
         cell.push_str(", +5 a sum of 5");
     }
     let mut lines = wrapped(&format!("{cell}."), "", style.width);
-    if picture.lost.is_some() {
+    if picture.lost.count() > 0 {
         for (mark, cells) in picture.legend() {
             let sign = painted(&sign(mark).to_string(), mark, style);
             lines.push(format!("  {sign} {}: {cells}", mark.meaning()));

@@ -1,10 +1,12 @@
-//! Which symbols of the failed disk are wanted: what `--want` asks for, what a plan sheet lists, and both in words.
+//! Which symbols of the lost disks are wanted: what `--want` asks for, what a plan sheet lists, and both in words.
 use crate::arguments::shown;
+use crate::disks::Disks;
+use crate::lists::{self, decimal, listed, rising};
 use crate::sheets::{counted, Code};
 use std::ffi::OsStr;
 use std::ops::RangeInclusive;
 
-/// What `--want` asks for: rows of the failed disk and symbols by their numbers, as they were typed.
+/// What `--want` asks for: rows of each lost disk and symbols by their numbers, as they were typed.
 #[derive(Debug)]
 pub struct Request {
     rows: Vec<RangeInclusive<u64>>,
@@ -17,20 +19,15 @@ impl Request {
         let mut request = Request { rows: Vec::new(), symbols: Vec::new() };
         for item in word.to_string_lossy().split(',') {
             let wrong = |why: &str| Err(format!("'{}' {why}", shown(OsStr::new(item))));
-            let (first, last) = item.split_once('-').unwrap_or((item, item));
-            let (range, list) = if let (Some(first), Some(last)) = (number(first), number(last)) {
-                (first..=last, &mut request.rows)
-            } else if let (Some(first), Some(last)) = (symbol(first), symbol(last)) {
-                (first..=last, &mut request.symbols)
+            let (range, list) = if let Some(rows) = lists::range(item, decimal) {
+                (rows, &mut request.rows)
+            } else if let Some(symbols) = lists::range(item, symbol) {
+                (symbols, &mut request.symbols)
             } else {
                 return wrong("is neither a row, like 2 or 0-2, nor a symbol, like s5 or s5-s7");
             };
-            if range.is_empty() {
-                return wrong("falls: a range goes from the lower number to the higher");
-            }
-            // A disk has at most 32 rows; what nobody could mean isn't counted out.
-            if range.end() - range.start() > 255 {
-                return wrong("is more than any disk has");
+            if let Some(fault) = lists::fault(&range) {
+                return wrong(fault);
             }
             list.push(range);
         }
@@ -38,37 +35,24 @@ impl Request {
     }
 
     /// The numbers of the symbols, rising, each once: row j of a disk is symbol disk × r + j.
-    pub fn symbols(&self, code: &Code, disk: u64) -> Vec<u64> {
-        let origin = disk.saturating_mul(code.rows as u64);
-        let rows = self.rows.iter().cloned().flatten().map(|row| origin.saturating_add(row));
-        let mut symbols: Vec<u64> = rows.chain(self.symbols.iter().cloned().flatten()).collect();
-        symbols.sort_unstable();
-        symbols.dedup();
-        symbols
+    pub fn symbols(&self, code: &Code, disks: &Disks) -> Vec<u64> {
+        let origin = |disk: u64| disk.saturating_mul(code.rows as u64);
+        let rows = self.rows.iter().cloned().flatten();
+        let rows = rows.flat_map(|row| disks.iter().map(move |disk| origin(disk).saturating_add(row)));
+        rising(rows.chain(self.symbols.iter().cloned().flatten()))
     }
-}
-
-/// Decimal digits and nothing else.
-fn number(text: &str) -> Option<u64> {
-    let digits = text.bytes().all(|byte| byte.is_ascii_digit());
-    text.parse().ok().filter(|_| digits)
 }
 
 /// A symbol's number after an s.
 fn symbol(text: &str) -> Option<u64> {
-    text.strip_prefix('s').and_then(number)
+    text.strip_prefix('s').and_then(decimal)
 }
 
-/// A list for the library, which takes bytes: a number too large for one is on no disk, and neither is 255.
-pub fn as_bytes(symbols: &[u64]) -> Vec<u8> {
-    symbols.iter().map(|&symbol| u8::try_from(symbol).unwrap_or(u8::MAX)).collect()
-}
-
-/// What is wanted of a failed disk.
+/// What is wanted of the lost disks.
 #[derive(Clone, Debug, PartialEq, Eq)]
 pub enum Wanted {
-    /// all of it
-    Disk,
+    /// all of them
+    All,
     /// some symbols, rising
     Symbols(Vec<u64>),
 }
@@ -77,27 +61,37 @@ impl Wanted {
     /// Whether a lost symbol is wanted.
     pub fn has(&self, symbol: usize) -> bool {
         match self {
-            Wanted::Disk => true,
+            Wanted::All => true,
             Wanted::Symbols(symbols) => symbols.contains(&(symbol as u64)),
         }
     }
 
-    /// The disk and, if not all of it is wanted, the rows: `disk 1` or `disk 1 rows 0 2`.
-    pub fn words(&self, code: &Code, disk: u64) -> String {
+    /// The disks or, if not all of them is wanted, the rows: `disk 1`, `disk 1 rows 0 2`, `disk 1 row 0 and disk 3 rows 0 2`.
+    pub fn words(&self, code: &Code, disks: &Disks) -> String {
         match self {
-            Wanted::Disk => format!("disk {disk}"),
-            Wanted::Symbols(symbols) => format!("disk {disk} {}", rows(code, symbols)),
+            Wanted::All => disks.words(),
+            Wanted::Symbols(symbols) => places(code, symbols),
         }
     }
 
     /// That no plan brings it back.
-    pub fn cannot_be_rebuilt(&self, code: &Code, disk: u64) -> String {
-        let all = match self {
-            Wanted::Symbols(symbols) if symbols.len() > 1 => "all ",
-            _ => "",
+    pub fn cannot_be_rebuilt(&self, code: &Code, disks: &Disks) -> String {
+        let several = match self {
+            Wanted::All => disks.count() > 1,
+            Wanted::Symbols(symbols) => symbols.len() > 1,
         };
-        format!("{} can't {all}be rebuilt by any plan", self.words(code, disk))
+        let all = if several { "all " } else { "" };
+        format!("{} can't {all}be rebuilt by any plan", self.words(code, disks))
     }
+}
+
+/// Symbols as rows of their disks: `disk 1 row 2`, or `disk 1 row 2 and disk 3 rows 0 2`.
+pub fn places(code: &Code, symbols: &[u64]) -> String {
+    let disk_of = |symbol: &u64| code.disk_of(*symbol as usize);
+    let on_one_disk = symbols.chunk_by(|one, next| disk_of(one) == disk_of(next));
+    let disks: Vec<String> =
+        on_one_disk.map(|symbols| format!("disk {} {}", disk_of(&symbols[0]), rows(code, symbols))).collect();
+    listed(&disks)
 }
 
 /// Symbols of one disk as its rows: `row 2` or `rows 0 2`.
@@ -107,19 +101,38 @@ pub fn rows(code: &Code, symbols: &[u64]) -> String {
 }
 
 /// What is wrong with a list that the library refused, as its place says.
-pub fn fault(code: &Code, disk: u64, list: &[u64], position: u64) -> String {
-    if list.is_empty() || list.len() > code.rows {
-        return format!("it has {}, disk {disk} has {}", counted(list.len(), "symbol"), counted(code.rows, "row"));
+pub fn fault(code: &Code, disks: &Disks, list: &[u64], position: u64) -> String {
+    let lost = code.rows * disks.count();
+    if list.is_empty() || list.len() > lost {
+        let (have, unit) = if disks.count() == 1 { ("has", "row") } else { ("have", "symbol") };
+        return format!("it has {}, {} {have} {}", counted(list.len(), "symbol"), disks.words(), counted(lost, unit));
     }
     let at = usize::try_from(position).unwrap_or(usize::MAX);
     let Some(&entry) = list.get(at) else { return String::new() };
-    let (first, height) = (disk.saturating_mul(code.rows as u64), code.rows as u64);
-    let last = first.saturating_add(height).saturating_sub(1);
     match list.get(at.wrapping_sub(1)) {
-        Some(before) if (first..=last).contains(&entry) => format!("it is symbol {entry}, after symbol {before}"),
-        _ => format!(
-            "it is symbol {entry}, disk {disk} has {first} to {last}, its rows 0 to {}",
-            height.saturating_sub(1)
-        ),
+        Some(before) if disks.iter().any(|disk| strip(code, disk).contains(&entry)) => {
+            format!("it is symbol {entry}, after symbol {before}")
+        }
+        _ => format!("it is symbol {entry}, {}", strips(code, disks)),
+    }
+}
+
+/// The numbers of a disk's symbols.
+fn strip(code: &Code, disk: u64) -> RangeInclusive<u64> {
+    let (first, height) = (disk.saturating_mul(code.rows as u64), code.rows as u64);
+    first..=first.saturating_add(height).saturating_sub(1)
+}
+
+/// Which symbols the disks have.
+fn strips(code: &Code, disks: &Disks) -> String {
+    let numbers = |disk| format!("{} to {}", strip(code, disk).start(), strip(code, disk).end());
+    match disks.one() {
+        Some(disk) => {
+            format!("disk {disk} has {}, its rows 0 to {}", numbers(disk), code.rows.saturating_sub(1))
+        }
+        None => {
+            let numbers: Vec<String> = disks.iter().map(numbers).collect();
+            format!("{} have {}", disks.words(), listed(&numbers))
+        }
     }
 }

@@ -17,17 +17,17 @@ byte-at-requires-4 c κs = tt
 byte-at-requires-5 : tie.Need-byte-at-requires-5
 byte-at-requires-5 c κs = tt
 
+reads-at-requires : tie.Need-reads-at-requires
+reads-at-requires c κs = tt
+
 byte-at-requires-6 : tie.Need-byte-at-requires-6
 byte-at-requires-6 c κs = tt
-
-byte-at-requires-7 : tie.Need-byte-at-requires-7
-byte-at-requires-7 c κs = tt
 
 returns : tie.Need-returns
 returns c =
     rw (
-      c .byte-at7 .ensures .0,
-      c .before .byte-at6 .ensures .0,
+      c .byte-at6 .ensures .0,
+      c .before .reads-at .ensures,
       c .before .before .byte-at5 .ensures .0,
       c .before .before .before .byte-at4 .ensures .0,
       c .before .before .before .before .byte-at3 .ensures .0,
@@ -44,6 +44,6 @@ read-head-spec =
     byte-at-requires-3
     byte-at-requires-4
     byte-at-requires-5
+    reads-at-requires
     byte-at-requires-6
-    byte-at-requires-7
     returns)
