@@ -8,12 +8,12 @@ use native.Mathlib.Omega.{arith}
 use borrow.Author.Tests.{eqb-true}
 use lib.Bits.{bitXor}
 use lib.Dec.{eqb, eqb·suc-zero}
-use lib.ListN.{length, getD, set, drop, length-map}
+use lib.ListN.{length, getD, set, drop, length-map, take-append-drop}
 use lib.Seq.{getD-drop, ext-getD}
 use Rattle.bits.specs.BitSets.{overlap}
 use Rattle.gf2.specs.InnerElimination.{pivotFor, reducePattern, reducePatterns}
 use Rattle.bits.proofs.Booleans.{bool-cases}
-use Rattle.gf2.proofs.EliminationLaws.{getD-reducePatterns}
+use Rattle.gf2.proofs.EliminationLaws.{getD-reducePatterns, pivotFor-zero}
 use Rattle.bits.proofs.OverlapLaws.{even-if-not-odd, overlap-zero-left, overlap-zero-right}
 use Rattle.bits.proofs.StoreLaws.{overwritten, overwritten-next, overwritten-more, overwritten-kept, overwritten-enough}
 use Rattle.elimination.specs.InnerPatterns.{ZeroBehind, firstNonempty}
@@ -80,12 +80,13 @@ firstNonempty-odd zero zero row other odd = absurd (omega (arith, overlap-zero-l
 -- ------------------------------------------------------------------
 -- The pass
 
-length-reducePatterns : (patterns : List ℕ) (row : ℕ) → length patterns ≡ length (reducePatterns patterns row)
+-- A row taken in leaves as many patterns
+pub length-reducePatterns : (patterns : List ℕ) (row : ℕ) → length patterns ≡ length (reducePatterns patterns row)
 unfolding reducePatterns
 length-reducePatterns patterns row = sym (length-map patterns (reducePattern (pivotFor patterns row) row))
 
 -- An empty row changes no pattern
-pub reducePatterns-of-empty : (patterns : List ℕ) → reducePatterns patterns 0 ≡ patterns
+reducePatterns-of-empty : (patterns : List ℕ) → reducePatterns patterns 0 ≡ patterns
 reducePatterns-of-empty patterns =
     ext-getD 0 (reducePatterns patterns 0) patterns (sym (length-reducePatterns patterns 0))
     (λ i h. getD-reducePatterns patterns 0 i ∙ reducePattern-even (pivotFor patterns 0) 0 (getD patterns i 0) (overlap-zero-right (getD patterns i 0)))
@@ -98,6 +99,16 @@ pub record PassedTo (patterns : List ℕ) (row i pivot : ℕ) (reduced : List �
 -- At first no pivot is found and no pattern is reduced
 pub passed-none : (patterns : List ℕ) (row : ℕ) → PassedTo patterns row 0 0 patterns
 passed-none patterns row = record { pivot-ahead = refl; stored = refl }
+
+-- An empty row has no pivot and changes no pattern, so that the pass may be anywhere
+pub passed-empty : (patterns : List ℕ) {row pivot : ℕ} → eqb row 0 ≡ true → pivot ≡ 0 → (i : ℕ) → PassedTo patterns row i pivot patterns
+passed-empty patterns {row} {pivot} no-row no-pivot i =
+    rw (eqb-true row 0 no-row)
+    (rw no-pivot
+    (record {
+      pivot-ahead = pivotFor-zero (drop i patterns) ∙ sym (pivotFor-zero patterns);
+      stored = sym (ap (λ (l : List ℕ). overwritten patterns l i) (reducePatterns-of-empty patterns) ∙ take-append-drop i patterns);
+    }))
 
 module _ {patterns : List ℕ} {row i pivot : ℕ} {reduced : List ℕ} (within : i < length patterns) (passed : PassedTo patterns row i pivot reduced) where
   within-reduced : i < length (reducePatterns patterns row)

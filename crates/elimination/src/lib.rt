@@ -17,12 +17,6 @@ use bits::odd_overlap;
 use bits::sum;
 use bits::with;
 
-// The patterns after one row, and the row's pivot.
-pub struct Reduced {
-    pub patterns: BitSets,
-    pub pivot: BitSet,
-}
-
 // The patterns after all rows, and the pivot of each row.
 pub struct Eliminated {
     pub remaining: BitSets,
@@ -79,36 +73,9 @@ fn first_nonempty(first: BitSet, second: BitSet) -> BitSet
     first
 }
 
-// One row taken in: its pivot added to every pattern that overlaps it oddly. Overlaps are dear, so pivot and patterns come from one pass,
-// and an empty row, as every lost one is, needs none.
-fn reduce(patterns: BitSets, count: usize, row: BitSet) -> Reduced
-    requires { ⌜ (count ≤ setWidth) × ZeroBehind count (numerals patterns) ⌝ }
-    ensures { λ r. ⌜ (numerals (r .patterns) ≡ reducePatterns (numerals patterns) (numeral row)) × (numeral (r .pivot) ≡ pivotFor (numerals patterns) (numeral row)) ⌝ }
-{
-    if is_empty(row) {
-        return Reduced {
-            patterns,
-            pivot: empty(),
-        };
-    }
-    let mut reduced = patterns;
-    let mut pivot = empty();
-    let mut i = 0;
-    while i < count {
-        let pattern = reduced[i];
-        if is_odd(pattern, row) {
-            pivot = first_nonempty(pivot, pattern);
-            reduced[i] = sum(pattern, pivot);
-        }
-        i += 1;
-    }
-    Reduced {
-        patterns: reduced,
-        pivot: pivot,
-    }
-}
-
-// The first `symbols` rows taken in, one after the other.
+// The first `symbols` rows taken in, one after the other: a row's pivot is added to every pattern that overlaps it oddly. Overlaps are dear, so
+// pivot and patterns come from one pass, and an empty row, as every lost one is, needs none. The pass stands here and not in a function of its
+// own, which would have the patterns copied for every row.
 pub fn eliminate(patterns: BitSets, count: usize, rows: BitSets, symbols: usize) -> Eliminated
     requires { ⌜ (count ≤ setWidth) × (symbols ≤ setWidth) × ZeroBehind count (numerals patterns) ⌝ }
     ensures { λ r. ⌜ (numerals (r .remaining) ≡ remaining (numerals patterns) (take symbols (numerals rows))) × (take symbols (numerals (r .pivots)) ≡ pivots (numerals patterns) (take symbols (numerals rows))) × ZeroBehind count (numerals (r .remaining)) ⌝ }
@@ -117,9 +84,17 @@ pub fn eliminate(patterns: BitSets, count: usize, rows: BitSets, symbols: usize)
     let mut pivots = empty_sets();
     let mut s = 0;
     while s < symbols {
-        let step = reduce(remaining, count, rows[s]);
-        let pivot = step.pivot;
-        remaining = step.patterns;
+        let row = rows[s];
+        let mut pivot = empty();
+        let mut i = if is_empty(row) { count } else { 0 };
+        while i < count {
+            let pattern = remaining[i];
+            if is_odd(pattern, row) {
+                pivot = first_nonempty(pivot, pattern);
+                remaining[i] = sum(pattern, pivot);
+            }
+            i += 1;
+        }
         pivots[s] = pivot;
         s += 1;
     }
