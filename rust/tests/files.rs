@@ -7,37 +7,14 @@ use model::random::Random;
 use std::fs::{self, File, Metadata, Permissions};
 use std::os::unix::fs::{chown, symlink, MetadataExt, PermissionsExt};
 use std::os::unix::process::{CommandExt, ExitStatusExt};
-use std::path::PathBuf;
-use std::process::{Child, Command, Stdio};
+use std::process::{Child, Command, ExitStatus, Stdio};
 use std::sync::atomic::{AtomicBool, Ordering};
-use std::sync::OnceLock;
 use std::thread;
 use std::time::{Duration, Instant};
 
 /// The stripe P1 with its first disk ruined, so many times.
 fn ruined(count: usize) -> Vec<u8> {
     [&[0xFF, 0xFF], &P1[2..]].concat().repeat(count)
-}
-
-/// The library of `shim/moments.c`, made once by the compiler that links this test too.
-fn shim() -> PathBuf {
-    static MADE: OnceLock<PathBuf> = OnceLock::new();
-    MADE.get_or_init(|| {
-        let shim = PathBuf::from(env!("CARGO_TARGET_TMPDIR")).join("moments.so");
-        let mut compiler = Command::new("cc");
-        compiler.args(["-shared", "-fPIC", "-O1", "-Wall", "-Werror", "-o"]).arg(&shim);
-        let made = compiler.arg(concat!(env!("CARGO_MANIFEST_DIR"), "/tests/shim/moments.c")).status();
-        assert!(made.expect("cc is there").success());
-        shim
-    })
-    .clone()
-}
-
-/// Runs a line of the tool with the shim.
-fn run_with(folder: &Folder, line: &str, variable: &str, value: &str) -> Ran {
-    let mut tool = Command::new(TOOL);
-    let tool = tool.args(line.split_whitespace()).current_dir(&folder.0);
-    Ran::of(tool.env("LD_PRELOAD", shim()).env(variable, value))
 }
 
 #[test]
@@ -90,7 +67,7 @@ fn what_others_write_meanwhile_stays() {
         let _ = fs::remove_file(folder.0.join("link"));
         symlink("stripes", folder.0.join("link")).expect("a link");
         let line = if file == "link" { line.replace("stripes", "link") } else { line.to_string() };
-        let ran = run_with(&folder, &line, "AT_FLUSH", command);
+        let ran = folder.run_with(&line, "AT_FLUSH", command);
         assert_eq!(ran.status, 2, "{line}, {command}: {ran:?}");
         assert!(ran.err.contains("somebody else") || ran.err.contains("it changed while it was read"), "{ran:?}");
         assert!(folder.get(file).starts_with(b"newer!"), "{line}, {command}");
@@ -110,7 +87,7 @@ fn a_file_that_is_gone_or_given_to_others_meanwhile_is_left() {
     for command in ["rm stripes", "chmod 600 stripes", "mv stripes old && mkdir stripes"] {
         let _ = fs::remove_dir(folder.0.join("stripes"));
         folder.put("stripes", &ruined(4));
-        let ran = run_with(&folder, "rebuild code 0 plan --symbol 1 stripes --in-place", "AT_FLUSH", command);
+        let ran = folder.run_with("rebuild code 0 plan --symbol 1 stripes --in-place", "AT_FLUSH", command);
         assert_eq!(ran.status, 2, "{command}: {ran:?}");
         assert!(!fs::read(folder.0.join("stripes")).is_ok_and(|bytes| bytes != ruined(4)), "{command}");
         assert_eq!(folder.temporaries(), 0, "{command}");
@@ -527,6 +504,82 @@ fn signals_leave_nothing_behind() {
     println!("{rounds} signals: {ended} came in time");
 }
 
+/// An array of some megabytes with two disks missing, and what they held.
+fn long_restore() -> (Folder, Vec<Vec<u8>>) {
+    let folder = Folder::square();
+    folder.put("data", &Random::new(8).bytes(4 << 20));
+    folder.done("split code --symbol 512 data -o array");
+    let disks = ["array/disk-0", "array/disk-2"].map(|name| folder.get(name)).to_vec();
+    (folder, disks)
+}
+
+/// Each of the two disks is there whole, or not at all; answers how many are.
+fn whole_disks(folder: &Folder, disks: &[Vec<u8>]) -> usize {
+    let found = ["array/disk-0", "array/disk-2"].map(|name| folder.has(name).then(|| folder.get(name)));
+    assert!(
+        found.iter().zip(disks).all(|(found, disk)| found.as_ref().is_none_or(|found| found == disk)),
+        "a half disk"
+    );
+    found.iter().flatten().count()
+}
+
+/// Runs the restore of the two disks, disturbed at some moment; answers how it ended.
+fn disturbed(folder: &Folder, moment: Duration, disturb: impl FnOnce(&mut Child)) -> ExitStatus {
+    let _ = fs::remove_file(folder.0.join("array/disk-0"));
+    let _ = fs::remove_file(folder.0.join("array/disk-2"));
+    let mut child = start(folder, "restore array");
+    thread::sleep(moment);
+    disturb(&mut child);
+    child.wait().expect("it ends")
+}
+
+#[test]
+fn a_restore_that_is_ended_leaves_whole_disks_or_none() {
+    let (folder, disks) = long_restore();
+    let began = Instant::now();
+    disturbed(&folder, Duration::ZERO, |_| {});
+    let (whole, mut random) = (began.elapsed(), Random::new(44));
+    assert_eq!(whole_disks(&folder, &disks), 2);
+    let (mut rounds, mut ended) = (0, 0);
+    while rounds < 60 || ended < 10 && rounds < 3000 {
+        let signal = [TERMINATE, INTERRUPT, HANG_UP][rounds % 3];
+        rounds += 1;
+        let moment = a_moment(&mut random, whole);
+        let status = disturbed(&folder, moment, |child| send(signal, child));
+        assert!(status.success() || status.signal() == Some(signal), "{signal}: {status}");
+        ended += usize::from(!status.success());
+        assert!(whole_disks(&folder, &disks) == 2 || !status.success());
+        assert_eq!(folder.temporaries(), 0, "{signal}");
+    }
+    assert!(ended >= 10, "{ended} of {rounds} signals came in time");
+    for _ in 0..60 {
+        let moment = a_moment(&mut random, whole);
+        disturbed(&folder, moment, |child| child.kill().expect("killed"));
+        whole_disks(&folder, &disks);
+    }
+    // What killed runs have left is gone after the next one that writes.
+    assert!(disturbed(&folder, Duration::ZERO, |_| {}).success());
+    assert_eq!((whole_disks(&folder, &disks), folder.temporaries()), (2, 0));
+}
+
+#[test]
+fn signals_end_the_wait_for_standard_input() {
+    let folder = Folder::square();
+    for line in ["encode code --symbol 1 - -o out", "check code 0 -", "split code --symbol 1 - -o array"] {
+        for signal in [TERMINATE, INTERRUPT] {
+            let mut tool = Command::new(TOOL);
+            let tool = tool.args(line.split_whitespace()).current_dir(&folder.0);
+            let mut child = tool.stdin(Stdio::piped()).stderr(Stdio::null()).spawn().expect("it runs");
+            let _open = child.stdin.take();
+            thread::sleep(Duration::from_millis(100));
+            assert!(child.try_wait().expect("it is ours").is_none(), "{line} doesn't wait");
+            send(signal, &child);
+            assert_eq!(child.wait().expect("it ends").signal(), Some(signal), "{line}");
+            assert_eq!((folder.temporaries(), folder.contents().len()), (0, 4), "{line}");
+        }
+    }
+}
+
 #[test]
 fn the_demonstration_leaves_nothing_behind_when_it_is_ended() {
     let folder = Folder::new();
@@ -603,7 +656,7 @@ fn a_folder_that_does_not_reach_the_disk_is_reported() {
     let folder = Folder::square();
     folder.put("stripes", &ruined(4));
     for line in ["rebuild code 0 plan --symbol 1 stripes --in-place", "rebuild code 0 plan --symbol 1 stripes -o new"] {
-        let ran = run_with(&folder, line, "FOLDER_FAILS", "yes");
+        let ran = folder.run_with(line, "FOLDER_FAILS", "yes");
         assert_eq!((ran.status, &*ran.out), (2, ""), "{line}: {ran:?}");
         assert!(ran.err.contains("can't bring to the disk the folder of"), "{ran:?}");
         assert!(ran.err.contains("is complete, but a crash may bring the old one back"), "{ran:?}");

@@ -1092,11 +1092,18 @@ fn misuse_is_explained() {
         ("check code 0 plan plan", "'plan' is one word too many"),
         ("check code -1 plan", "no option -1"),
         ("check code 0 plan --fast", "no option --fast"),
-        ("check - 0 plan", "standard input and output aren't supported"),
+        ("check - 0 -", "CODE and PLAN can't both be -: standard input is read once"),
+        ("show - --disk 0 --plan -", "CODE and --plan can't both be -"),
+        ("encode - --symbol 1 - -o out", "CODE and DATA can't both be -"),
+        ("encode code --symbol 1 - -o -", "- can't be both read and written"),
+        ("decode code --symbol 1 - -o -", "- can't be both read and written"),
+        ("split code --symbol 1 data -o -", "-o can't be -: name a file"),
+        ("split code --symbol 1 data", "-o ARRAY is missing"),
+        ("restore array 0 --dry-run=yes", "--dry-run takes no value"),
+        ("demo --keep -", "--keep can't be -"),
         ("plan code 0", "-o FILE is missing"),
         ("plan code 0 -o", "-o needs a value"),
         ("plan code 0 -o a -o b", "-o is given twice"),
-        ("plan code 0 -o -", "standard input and output aren't supported"),
         ("encode code data -o out", "--symbol L is missing"),
         ("encode code --symbol one data -o out", "--symbol must be a decimal number"),
         ("family hamming 7 4 -o out", "no family 'hamming'"),
@@ -1219,7 +1226,8 @@ fn help_is_there_and_its_examples_run() {
     folder.put("register.txt", &[b'x'; 25 * 64 * 3]);
     let all = folder.done("help");
     assert_eq!(folder.done("--help"), all);
-    for command in ["family", "encode", "plan", "check", "rebuild", "strip", "show", "demo"] {
+    let arrays = ["family", "split", "status", "restore", "join"];
+    for command in arrays.into_iter().chain(["encode", "decode", "plan", "check", "rebuild", "strip", "show", "demo"]) {
         assert!(all.contains(&format!("\n  {command} ")), "{command}");
         let help = folder.done(&format!("{command} --help"));
         assert_eq!(folder.done(&format!("help {command}")), help);
@@ -1236,6 +1244,8 @@ fn help_is_there_and_its_examples_run() {
     assert!(folder.misused("check --bogus -- --help").contains("no option --bogus"));
     assert!(folder.done("--version").starts_with("navorzim "));
     assert!(folder.has("plan.svg") && folder.has("disk0.bin") && folder.has("demo-files"));
+    assert_eq!(folder.get("decoded.txt"), folder.get("register.txt"));
+    assert_eq!(folder.get("joined.txt"), folder.get("register.txt"));
 }
 
 #[test]
@@ -1243,12 +1253,16 @@ fn the_demonstration_comes_out_right() {
     let folder = Folder::new();
     let said = folder.done("demo");
     for piece in [
-        "compared: all 4480 bytes are as they were",
+        "disk 0   data  disk-0  missing",
+        "disk 0 can be rebuilt: reads 25 symbols of each of 2 stripes, 3200 bytes, from disks 1, 2, 3, 4 and 5",
+        "compared: all 640 bytes of array/disk-0 are as they were",
+        "restored disks 0 and 3: array/disk-0, array/disk-3",
+        "compared: all 3200 bytes of register.txt are in joined.txt",
         "wrote row2.sheet: 26 bytes, 5 steps, reads 5 symbols, brings back disk 0 row 2",
         "compared: row 2 is as it was, and no other byte has changed",
         "refused 21 at 5: row 0 of the failed disk ends wrong: data symbol 5 is off (plan.sheet)",
         "refused 15 at 0: ",
-        "compared: not a byte of stripes.bin has changed",
+        "compared: anew/disk-0 is still missing, nothing wrong has taken its place",
         "The pattern is 8, bits 001000",
         "A plan can bring its row 0 back: --want 0.",
         "brings back disk 1 row 0",
@@ -1380,21 +1394,34 @@ fn the_readme_is_true() {
     fs::create_dir(folder.0.join("examples")).expect("created");
     folder.put("examples/register.txt", include_bytes!("../../examples/register.txt"));
     let readme = include_str!("../../README.md");
-    let lines: Vec<&str> = readme.lines().filter_map(|line| line.strip_prefix("    navorzim ")).collect();
-    assert_eq!(lines.len(), 10);
-    for line in lines {
-        folder.done(line);
+    let mut lines = 0;
+    for line in readme.lines().filter_map(|line| line.strip_prefix("    ")) {
+        match line.split_once(' ') {
+            Some(("navorzim", line)) => drop(folder.done(line)),
+            Some(("rm", disk)) => folder.remove(disk),
+            _ => continue,
+        }
+        lines += 1;
+    }
+    assert_eq!(lines, 16);
+    for name in ["joined.txt", "decoded.txt"] {
+        assert_eq!(folder.get(name), folder.get("examples/register.txt"), "{name}");
     }
     assert_eq!(folder.get("rebuilt.bin"), folder.get("stripes.bin"));
+    assert_eq!(folder.get("disk0.bin"), folder.get("array/disk-0"));
     // Each line of the demonstration that is quoted stands in it.
     let said = folder.done("demo");
     let quoted = readme.lines().skip_while(|line| *line != "## Two commands").take_while(|line| *line != "## The tool");
     for line in quoted.filter_map(|line| line.strip_prefix("    ")).filter(|line| line.starts_with(['$', ' ', 'c'])) {
         assert!(said.contains(line), "'{line}' isn't in {said}");
     }
-    let picture = include_str!("../../docs/stripe.svg");
-    texts_fit(picture, "docs/stripe.svg");
-    balanced(picture);
+    for (name, picture) in [
+        ("docs/stripe.svg", include_str!("../../docs/stripe.svg")),
+        ("docs/array.svg", include_str!("../../docs/array.svg")),
+    ] {
+        texts_fit(picture, name);
+        balanced(picture);
+    }
 }
 
 #[test]

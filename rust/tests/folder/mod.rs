@@ -4,9 +4,12 @@
 use std::collections::BTreeMap;
 use std::ffi::OsStr;
 use std::fs;
-use std::path::PathBuf;
-use std::process::Command;
+use std::io::Write;
+use std::path::{Path, PathBuf};
+use std::process::{Command, Stdio};
 use std::sync::atomic::{AtomicUsize, Ordering};
+use std::sync::OnceLock;
+use std::thread;
 
 pub const TOOL: &str = env!("CARGO_BIN_EXE_navorzim");
 
@@ -60,16 +63,13 @@ impl Folder {
         fs::symlink_metadata(self.0.join(name)).is_ok()
     }
 
-    /// Every file with its bytes, hidden ones too.
+    /// Every file with its bytes, hidden ones too, and those of folders in it.
     pub fn contents(&self) -> BTreeMap<PathBuf, Vec<u8>> {
-        let entries = fs::read_dir(&self.0).expect("a folder");
-        let paths = entries.map(|entry| entry.expect("an entry").path());
-        paths
-            .map(|path| {
-                let bytes = fs::read(&path).unwrap_or_default();
-                (path, bytes)
-            })
-            .collect()
+        contents(&self.0)
+    }
+
+    pub fn remove(&self, name: &str) {
+        fs::remove_file(self.0.join(name)).expect("it was there");
     }
 
     /// Runs a line of the tool in the folder.
@@ -84,6 +84,24 @@ impl Folder {
         Ran::of(command)
     }
 
+    /// Runs a line of the tool with bytes for its standard input; answers what it wrote to standard output besides.
+    pub fn run_with_input(&self, line: &str, input: &[u8]) -> (Ran, Vec<u8>) {
+        let mut command = Command::new(TOOL);
+        let command = command.args(line.split_whitespace()).current_dir(&self.0);
+        let command = command.stdin(Stdio::piped()).stdout(Stdio::piped()).stderr(Stdio::piped());
+        let mut child = command.spawn().expect("the tool runs");
+        let mut stdin = child.stdin.take().expect("a pipe");
+        thread::scope(|scope| {
+            // A tool that doesn't read to the end is no failure of this thread.
+            scope.spawn(move || stdin.write_all(input));
+            let output = child.wait_with_output().expect("it ends");
+            let status = output.status.code().expect("it ends by itself");
+            let err = String::from_utf8(output.stderr).expect("text");
+            assert!(!err.contains("panicked"), "{err}");
+            (Ran { status, out: String::new(), err }, output.stdout)
+        })
+    }
+
     /// Runs lines of Python in the folder, for what is out of the standard library's reach; says so if that can't be tried.
     pub fn python(&self, lines: &str) -> Option<String> {
         let output = Command::new("python3").args(["-c", lines]).current_dir(&self.0).output().ok()?;
@@ -94,6 +112,13 @@ impl Folder {
                 None
             }
         }
+    }
+
+    /// Runs a line of the tool with `shim/moments.c` before the C library.
+    pub fn run_with(&self, line: &str, variable: &str, value: &str) -> Ran {
+        let mut tool = Command::new(TOOL);
+        let tool = tool.args(line.split_whitespace()).current_dir(&self.0);
+        Ran::of(tool.env("LD_PRELOAD", shim()).env(variable, value))
     }
 
     /// How many temporary files of the tool there are.
@@ -134,6 +159,30 @@ impl Folder {
         assert!(ran.err.starts_with("navorzim: "), "{line}: {}", ran.err);
         ran.err
     }
+}
+
+fn contents(folder: &Path) -> BTreeMap<PathBuf, Vec<u8>> {
+    let entries = fs::read_dir(folder).expect("a folder").map(|entry| entry.expect("an entry"));
+    let all = entries.flat_map(|entry| match entry.file_type().expect("a kind").is_dir() {
+        true => contents(&entry.path()).into_iter().chain([(entry.path(), Vec::new())]).collect::<Vec<_>>(),
+        false => vec![(entry.path(), fs::read(entry.path()).unwrap_or_default())],
+    });
+    all.collect()
+}
+
+/// The library of `shim/moments.c`, made once by the compiler that links the tests too.
+pub fn shim() -> PathBuf {
+    static MADE: OnceLock<PathBuf> = OnceLock::new();
+    MADE.get_or_init(|| {
+        let name = concat!("moments-", env!("CARGO_CRATE_NAME"), ".so");
+        let shim = PathBuf::from(env!("CARGO_TARGET_TMPDIR")).join(name);
+        let mut compiler = Command::new("cc");
+        compiler.args(["-shared", "-fPIC", "-O1", "-Wall", "-Werror", "-o"]).arg(&shim);
+        let made = compiler.arg(concat!(env!("CARGO_MANIFEST_DIR"), "/tests/shim/moments.c")).status();
+        assert!(made.expect("cc is there").success());
+        shim
+    })
+    .clone()
 }
 
 impl Drop for Folder {

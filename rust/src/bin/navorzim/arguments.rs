@@ -1,15 +1,16 @@
 //! The command line: named options, and the words that stand in order.
 use crate::disks::Disks;
 use crate::failure::Failure;
+use crate::files::is_standard;
 use crate::lists::decimal;
 use crate::wanted::Request;
 use std::collections::VecDeque;
 use std::ffi::{OsStr, OsString};
 use std::os::unix::ffi::OsStrExt;
-use std::path::PathBuf;
+use std::path::{Path, PathBuf};
 
 /// The options that take no value.
-const FLAGS: &[&str] = &["--in-place"];
+const FLAGS: &[&str] = &["--dry-run", "--in-place"];
 
 /// What follows a command's name, sorted. A question removes what it answers, so that `finish` finds what nobody asked for.
 #[derive(Debug)]
@@ -18,6 +19,10 @@ pub struct Arguments {
     words: VecDeque<OsString>,
     options: Vec<(&'static str, OsString)>,
     help: bool,
+    /// what is read from standard input
+    standard_input: Option<String>,
+    /// whether standard output takes a command's bytes, so that what it says goes elsewhere
+    standard_output: bool,
 }
 
 impl Arguments {
@@ -27,7 +32,9 @@ impl Arguments {
         known: &'static [&'static str],
         given: impl IntoIterator<Item = OsString>,
     ) -> Result<Arguments, Failure> {
-        let mut sorted = Arguments { command, words: VecDeque::new(), options: Vec::new(), help: false };
+        let (words, options) = (VecDeque::new(), Vec::new());
+        let mut sorted =
+            Arguments { command, words, options, help: false, standard_input: None, standard_output: false };
         let mut given = given.into_iter();
         while let Some(word) = given.next() {
             match word.as_bytes() {
@@ -92,6 +99,42 @@ impl Arguments {
         self.as_file(name, word)
     }
 
+    /// The next word as a file that is read, or `-` for standard input.
+    pub fn source(&mut self, name: &str) -> Result<PathBuf, Failure> {
+        let word = self.word(name)?;
+        self.as_source(name, word)
+    }
+
+    /// The value of an option as a file that is read, or `-` for standard input, if it is given.
+    pub fn source_option(&mut self, name: &str) -> Result<Option<PathBuf>, Failure> {
+        let value = self.option(name);
+        value.map(|word| self.as_source(name, word)).transpose()
+    }
+
+    /// The value of an option as a file that is written, or `-` for standard output, if it is given.
+    pub fn target_option(&mut self, name: &str) -> Result<Option<PathBuf>, Failure> {
+        match self.option(name) {
+            Some(word) if word == "-" => {
+                self.standard_output = true;
+                Ok(Some(PathBuf::from(word)))
+            }
+            word => word.map(|word| self.as_file(name, word)).transpose(),
+        }
+    }
+
+    /// Whether standard output takes the command's bytes.
+    pub fn takes_standard_output(&self) -> bool {
+        self.standard_output
+    }
+
+    /// Refuses to read from standard input what goes to standard output: bytes would be out before the last ones are seen and tested.
+    pub fn not_both_standard(&self, source: &Path) -> Result<(), Failure> {
+        match is_standard(source) && self.standard_output {
+            true => Err(self.misuse("- can't be both read and written: name a file for one of them".to_string())),
+            false => Ok(()),
+        }
+    }
+
     /// The next word as a number.
     pub fn number(&mut self, name: &str) -> Result<u64, Failure> {
         let word = self.word(name)?;
@@ -102,6 +145,12 @@ impl Arguments {
     pub fn disks(&mut self, name: &str) -> Result<Disks, Failure> {
         let word = self.word(name)?;
         self.as_disks(name, &word)
+    }
+
+    /// The next word as the lost disks, if there is one.
+    pub fn disks_if_any(&mut self, name: &str) -> Result<Option<Disks>, Failure> {
+        let word = self.words.pop_front();
+        word.map(|word| self.as_disks(name, &word)).transpose()
     }
 
     /// The value of an option as a file, if it is given.
@@ -136,10 +185,16 @@ impl Arguments {
         }
     }
 
-    /// Where the output goes; asked for by name, so that no file is written that nobody named.
+    /// Where the output goes, a file or `-` for standard output; asked for by name, so that no file is written that nobody named.
     pub fn output(&mut self) -> Result<PathBuf, Failure> {
-        let file = self.file_option("-o")?;
+        let file = self.target_option("-o")?;
         file.ok_or_else(|| self.misuse("-o FILE is missing".to_string()))
+    }
+
+    /// The folder that the output goes to.
+    pub fn folder(&mut self) -> Result<PathBuf, Failure> {
+        let folder = self.file_option("-o")?;
+        folder.ok_or_else(|| self.misuse("-o ARRAY is missing".to_string()))
     }
 
     /// The symbol length, L.
@@ -166,9 +221,19 @@ impl Arguments {
         Some(self.options.swap_remove(at).1)
     }
 
+    fn as_source(&mut self, name: &str, word: OsString) -> Result<PathBuf, Failure> {
+        if word != "-" {
+            return self.as_file(name, word);
+        }
+        match self.standard_input.replace(name.to_string()) {
+            None => Ok(PathBuf::from(word)),
+            Some(other) => Err(self.misuse(format!("{other} and {name} can't both be -: standard input is read once"))),
+        }
+    }
+
     fn as_file(&self, name: &str, word: OsString) -> Result<PathBuf, Failure> {
         if word == "-" {
-            let what = format!("{name} can't be -: standard input and output aren't supported, name a file");
+            let what = format!("{name} can't be -: name a file");
             return Err(self.misuse(what));
         }
         if word.is_empty() {

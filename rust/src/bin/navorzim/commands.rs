@@ -2,14 +2,15 @@
 use crate::arguments::{shown, Arguments};
 use crate::disks::Disks;
 use crate::failure::{printable, Failure, Refused};
-use crate::lists::as_bytes;
-use crate::picture::{Picture, Story, Stuck};
+use crate::files::Purpose;
+use crate::picture::{Picture, Story};
+use crate::planning::{checked, checked_plan, no_plan, plan_anew};
 use crate::sheets::{counted, Code, Plan};
-use crate::stream::{self, Pieces};
+use crate::stream::{self, End, Pieces, Stream};
 use crate::text::Style;
-use crate::wanted::{self, Request, Wanted};
-use crate::{demo, help, replacement, svg, text};
-use navorzim::{Family, Planning, Refusal, WantedSymbol};
+use crate::wanted::{Request, Wanted};
+use crate::{arrays, demo, help, output, restore, svg, text};
+use navorzim::{Family, Refusal, WantedSymbol};
 use std::ffi::OsString;
 use std::path::{Path, PathBuf};
 
@@ -25,7 +26,12 @@ pub struct Command {
 pub const COMMANDS: &[Command] = &[
     Command { name: "demo", options: &["--keep"], help: help::DEMO, run: demo::run },
     Command { name: "family", options: &["-o"], help: help::FAMILY, run: family },
-    Command { name: "encode", options: &["-o", "--symbol"], help: help::ENCODE, run: encode },
+    Command { name: "split", options: &["-o", "--symbol"], help: help::SPLIT, run: arrays::split },
+    Command { name: "status", options: &[], help: help::STATUS, run: arrays::status },
+    Command { name: "restore", options: &["--dry-run", "--plan"], help: help::RESTORE, run: restore::run },
+    Command { name: "join", options: &["-o"], help: help::JOIN, run: arrays::join },
+    Command { name: "encode", options: &["-o", "--length", "--symbol"], help: help::ENCODE, run: encode },
+    Command { name: "decode", options: &["-o", "--length", "--symbol"], help: help::DECODE, run: decode },
     Command { name: "plan", options: &["-o", "--want"], help: help::PLAN, run: plan },
     Command { name: "check", options: &[], help: help::CHECK, run: check },
     Command { name: "rebuild", options: &["-o", "--in-place", "--symbol"], help: help::REBUILD, run: rebuild },
@@ -38,16 +44,32 @@ pub fn find(name: &str) -> Option<&'static Command> {
     COMMANDS.iter().find(|command| command.name == name)
 }
 
+/// What came of a command.
+pub struct Ran {
+    pub answer: Result<String, Failure>,
+    /// whether standard output has taken its bytes, so that the answer goes to standard error
+    pub aside: bool,
+}
+
+impl From<Result<String, Failure>> for Ran {
+    fn from(answer: Result<String, Failure>) -> Ran {
+        Ran { answer, aside: false }
+    }
+}
+
 /// Runs a command with what follows its name.
-pub fn run(command: &'static Command, given: impl IntoIterator<Item = OsString>) -> Result<String, Failure> {
+pub fn run(command: &'static Command, given: impl IntoIterator<Item = OsString>) -> Ran {
     let given: Vec<OsString> = given.into_iter().collect();
     let asked = given.iter().take_while(|word| *word != "--").any(|word| word == "-h" || word == "--help");
     match Arguments::read(command.name, command.options, given) {
-        Ok(arguments) if arguments.asks_for_help() => Ok(command.help.to_string()),
+        Ok(arguments) if arguments.asks_for_help() => Ok(command.help.to_string()).into(),
         // Whoever asks for help gets it, whatever else can't be understood.
-        Err(_) if asked => Ok(command.help.to_string()),
-        Ok(mut arguments) => (command.run)(&mut arguments),
-        Err(failure) => Err(failure),
+        Err(_) if asked => Ok(command.help.to_string()).into(),
+        Ok(mut arguments) => {
+            let answer = (command.run)(&mut arguments);
+            Ran { answer, aside: arguments.takes_standard_output() }
+        }
+        Err(failure) => Err(failure).into(),
     }
 }
 
@@ -84,22 +106,26 @@ fn family(arguments: &mut Arguments) -> Result<String, Failure> {
         Failure::Refused(Refused { refusal, detail: format!("{} {given}", name.to_string_lossy()), file: None })
     };
     let sheet = family.sheet().map_err(unlisted)?;
-    replacement::replace(&output, &[], &sheet)?;
+    output::put(&output, &[], &sheet)?;
     let length = sheet.len();
     let code = Code::read(&output, sheet).map_err(unlisted)?;
     Ok(format!("wrote {}: {}, {length} bytes\n", printable(&output), code.shape()))
 }
 
 fn encode(arguments: &mut Arguments) -> Result<String, Failure> {
-    let (code, data) = (arguments.file("CODE")?, arguments.file("DATA")?);
-    let (symbol, output) = (arguments.symbol_length()?, arguments.output()?);
+    let (code, data) = (arguments.source("CODE")?, arguments.source("DATA")?);
+    let (symbol, length) = (arguments.symbol_length()?, arguments.number_option("--length")?);
+    let output = arguments.output()?;
     arguments.finish()?;
+    arguments.not_both_standard(&data)?;
     let code = Code::open(&code)?;
     let explain = |refusal| code.explain(refusal, &Disks::NONE, None, symbol);
     // With no data the library refuses all that goes before the data's length, in its own order, and then that length.
     all_but(navorzim::encode(&code.sheet, symbol, &[], &mut []), Refusal::DataLength).map_err(explain)?;
     let mut stripe = vec![0; Pieces::stripes(&code, symbol).length()];
-    let stripes = stream::each(&data, &Pieces::data(&code, symbol), Some(&output), &[&code.file], |piece, output| {
+    let end = length.map_or(End::Whole, End::After);
+    let stream = Stream::open(&data, Pieces::data(&code, symbol), end, Purpose::Read)?;
+    let stripes = stream::each(stream, Some(&output), &[&code.file], |piece, output| {
         navorzim::encode(&code.sheet, symbol, piece, &mut stripe).map_err(explain)?;
         output.write(&stripe)
     })?;
@@ -111,26 +137,44 @@ fn encode(arguments: &mut Arguments) -> Result<String, Failure> {
     ))
 }
 
+fn decode(arguments: &mut Arguments) -> Result<String, Failure> {
+    let (code, stripes) = (arguments.source("CODE")?, arguments.source("STRIPES")?);
+    let (symbol, length) = (arguments.symbol_length()?, arguments.number_option("--length")?);
+    let output = arguments.output()?;
+    arguments.finish()?;
+    arguments.not_both_standard(&stripes)?;
+    let code = Code::open(&code)?;
+    let homes = code.homes(&Disks::NONE)?;
+    let explain = |refusal| code.explain(refusal, &Disks::NONE, None, symbol);
+    all_but(navorzim::strip(&code.sheet, 0, symbol, &[]).map(|_| ()), Refusal::StripeLength).map_err(explain)?;
+    let pieces = Pieces::stripes(&code, symbol);
+    let stripes_of = |length: u64| length.div_ceil(Pieces::data(&code, symbol).length() as u64);
+    let end = length.map_or(End::Whole, |length| End::After(stripes_of(length).saturating_mul(pieces.length() as u64)));
+    let stream = Stream::open(&stripes, pieces, end, Purpose::Read)?;
+    let mut left = length.unwrap_or(u64::MAX);
+    let count = stream::each(stream, Some(&output), &[&code.file], |stripe, output| {
+        homes.iter().try_for_each(|home| {
+            let whole = &stripe[home * symbol as usize..][..symbol as usize];
+            let symbol = &whole[..whole.len().min(usize::try_from(left).unwrap_or(usize::MAX))];
+            left -= symbol.len() as u64;
+            output.write(symbol)
+        })
+    })?;
+    let bytes = length.unwrap_or(u64::MAX) - left;
+    Ok(format!("wrote {}: {} of {}\n", printable(&output), counted(bytes, "byte"), counted(count, "stripe")))
+}
+
 fn plan(arguments: &mut Arguments) -> Result<String, Failure> {
-    let (code, disks) = (arguments.file("CODE")?, arguments.disks("DISKS")?);
+    let (code, disks) = (arguments.source("CODE")?, arguments.disks("DISKS")?);
     let (request, output) = (arguments.wanted()?, arguments.output()?);
     arguments.finish()?;
     let code = Code::open(&code)?;
-    let (planning, wanted) = planned(&code, &disks, request.as_ref())?;
-    let (plan, reads) = match planning {
-        Planning::Plan { plan, reads } => (plan, reads),
-        Planning::Pattern(bits) => {
-            let stuck = stuck(&code, disks, wanted, bits);
-            let text = stuck.notes(&code).iter().map(|note| format!("{note}\n")).collect();
-            return Err(no_plan(text, code, &stuck));
-        }
-    };
-    replacement::replace(&output, &[&code.file], &plan)?;
-    let length = plan.len();
-    let plan = Plan { file: output, sheet: plan };
+    let (plan, reads) = checked_plan(&code, &disks, &Wanted::asked_for(request.as_ref(), &code, &disks))?;
+    output::put(&output, &[&code.file], &plan.sheet)?;
     Ok(format!(
-        "wrote {}: {length} bytes, {}, reads {}{}\n",
-        printable(&plan.file),
+        "wrote {}: {} bytes, {}, reads {}{}\n",
+        printable(&output),
+        plan.sheet.len(),
         counted(plan.steps().len(), "step"),
         counted(reads, "symbol"),
         brings_back(&code, &disks, &plan)
@@ -138,8 +182,8 @@ fn plan(arguments: &mut Arguments) -> Result<String, Failure> {
 }
 
 fn check(arguments: &mut Arguments) -> Result<String, Failure> {
-    let (code, disks) = (arguments.file("CODE")?, arguments.disks("DISKS")?);
-    let plan = arguments.file("PLAN")?;
+    let (code, disks) = (arguments.source("CODE")?, arguments.disks("DISKS")?);
+    let plan = arguments.source("PLAN")?;
     arguments.finish()?;
     let (code, plan) = (Code::open(&code)?, Plan::open(&plan)?);
     let reads = checked(&code, &disks, &plan)?;
@@ -155,27 +199,24 @@ fn brings_back(code: &Code, disks: &Disks, plan: &Plan) -> String {
 }
 
 fn rebuild(arguments: &mut Arguments) -> Result<String, Failure> {
-    let (code, disks) = (arguments.file("CODE")?, arguments.disks("DISKS")?);
-    let (plan, stripes) = (arguments.file("PLAN")?, arguments.file("STRIPES")?);
+    let (code, disks) = (arguments.source("CODE")?, arguments.disks("DISKS")?);
+    let (plan, stripes) = (arguments.source("PLAN")?, arguments.source("STRIPES")?);
     let symbol = arguments.symbol_length()?;
     let output = rebuilding_to(arguments)?;
     arguments.finish()?;
+    arguments.not_both_standard(&stripes)?;
     let (code, plan, lost) = (Code::open(&code)?, Plan::open(&plan)?, disks.as_bytes());
     let explain = |refusal| code.explain(refusal, &disks, Some(&plan), symbol);
     // As in `encode`: all that goes before the stripe's length.
     all_but(navorzim::rebuild_disks(&code.sheet, &lost, &plan.sheet, symbol, &mut []), Refusal::StripeLength)
         .map_err(explain)?;
-    let count = stream::each(
-        &stripes,
-        &Pieces::stripes(&code, symbol),
-        output.as_deref(),
-        &[&code.file, &plan.file],
-        |stripe, output| {
-            // The library checks the plan again, for every stripe: none is believed because it was once believed.
-            navorzim::rebuild_disks(&code.sheet, &lost, &plan.sheet, symbol, stripe).map_err(explain)?;
-            output.write(stripe)
-        },
-    )?;
+    let purpose = if output.is_some() { Purpose::Read } else { Purpose::ReadAndReplace };
+    let stream = Stream::open(&stripes, Pieces::stripes(&code, symbol), End::Whole, purpose)?;
+    let count = stream::each(stream, output.as_deref(), &[&code.file, &plan.file], |stripe, output| {
+        // The library checks the plan again, for every stripe: none is believed because it was once believed.
+        navorzim::rebuild_disks(&code.sheet, &lost, &plan.sheet, symbol, stripe).map_err(explain)?;
+        output.write(stripe)
+    })?;
     // The library can't know which L, disk or code the stripes were made with, so the user is told what was believed.
     Ok(format!(
         "rebuilt {} in {}: {}\n  by symbols of {} (L), code {} ({})\n",
@@ -191,7 +232,7 @@ fn rebuild(arguments: &mut Arguments) -> Result<String, Failure> {
 /// Where the rebuilt stripes go: a file, or none for the place of those that were read. A wrong L, disk or code can't always be
 /// noticed, and the only copy isn't replaced unasked.
 fn rebuilding_to(arguments: &mut Arguments) -> Result<Option<PathBuf>, Failure> {
-    let output = arguments.file_option("-o")?;
+    let output = arguments.target_option("-o")?;
     match (&output, arguments.flag("--in-place")) {
         (Some(_), true) => Err(arguments.misuse("-o and --in-place exclude each other".to_string())),
         (None, false) => Err(arguments.misuse("-o OUT is missing, or --in-place, which replaces STRIPES".to_string())),
@@ -200,18 +241,19 @@ fn rebuilding_to(arguments: &mut Arguments) -> Result<Option<PathBuf>, Failure> 
 }
 
 fn strip(arguments: &mut Arguments) -> Result<String, Failure> {
-    let (code, disk) = (arguments.file("CODE")?, arguments.number("DISK")?);
-    let stripes = arguments.file("STRIPES")?;
+    let (code, disk) = (arguments.source("CODE")?, arguments.number("DISK")?);
+    let stripes = arguments.source("STRIPES")?;
     let (symbol, output) = (arguments.symbol_length()?, arguments.output()?);
     arguments.finish()?;
+    arguments.not_both_standard(&stripes)?;
     let code = Code::open(&code)?;
     let explain = |refusal| code.explain(refusal, &Disks::of([disk]), None, symbol);
     all_but(navorzim::strip(&code.sheet, disk, symbol, &[]).map(|_| ()), Refusal::StripeLength).map_err(explain)?;
-    let count =
-        stream::each(&stripes, &Pieces::stripes(&code, symbol), Some(&output), &[&code.file], |stripe, output| {
-            let strip = navorzim::strip(&code.sheet, disk, symbol, stripe).map_err(explain)?;
-            output.write(strip)
-        })?;
+    let stream = Stream::open(&stripes, Pieces::stripes(&code, symbol), End::Whole, Purpose::Read)?;
+    let count = stream::each(stream, Some(&output), &[&code.file], |stripe, output| {
+        let strip = navorzim::strip(&code.sheet, disk, symbol, stripe).map_err(explain)?;
+        output.write(strip)
+    })?;
     Ok(format!(
         "wrote {}: {} of disk {disk}, {} of {symbol} bytes each\n",
         printable(&output),
@@ -221,11 +263,11 @@ fn strip(arguments: &mut Arguments) -> Result<String, Failure> {
 }
 
 fn show(arguments: &mut Arguments) -> Result<String, Failure> {
-    let code = arguments.file("CODE")?;
+    let code = arguments.source("CODE")?;
     let disks = arguments.disks_option("--disk")?;
-    let plan = arguments.file_option("--plan")?;
+    let plan = arguments.source_option("--plan")?;
     let request = arguments.wanted()?;
-    let drawing = arguments.file_option("--svg")?;
+    let drawing = arguments.target_option("--svg")?;
     arguments.finish()?;
     let misuse = match (&disks, &plan, &request) {
         (None, Some(_), _) => "--plan needs --disk: which disks are lost isn't left to the plan",
@@ -245,65 +287,25 @@ fn show(arguments: &mut Arguments) -> Result<String, Failure> {
     let picture = Picture::new(&code, &story);
     if let Some(drawing) = drawing {
         let plan = plan.as_deref().unwrap_or(Path::new(""));
-        replacement::replace(&drawing, &[&code.file, plan], svg::draw(&picture).as_bytes())?;
+        output::put_text(&drawing, &[&code.file, plan], &svg::draw(&picture))?;
     }
-    let text = text::draw(&picture, Style::of_stdout());
+    // Whoever takes the picture from standard output doesn't want it twice.
+    let text = match arguments.takes_standard_output() {
+        true => String::new(),
+        false => text::draw(&picture, Style::of_stdout()),
+    };
     match (story, refused) {
         (_, Some(refused)) => Err(Failure::Drawn { text, refused }),
-        (Story::Stuck(stuck), None) => Err(no_plan(text, code, &stuck)),
+        (Story::Stuck(stuck), None) => Err(no_plan(text, &code, &stuck)),
         (Story::Code | Story::Plan { .. } | Story::Wrong { .. }, None) => Ok(text),
     }
 }
 
-/// What the planner says about lost disks, or about the symbols of them that are asked for.
-fn planned(code: &Code, disks: &Disks, request: Option<&Request>) -> Result<(Planning, Wanted), Failure> {
-    let symbols = request.map(|request| request.symbols(code, disks));
-    let planning = plan_for(code, disks, symbols.as_deref()).map_err(|refusal| match (refusal, &symbols) {
-        (Refusal::BadWantedList { position }, Some(symbols)) => {
-            Failure::refused(refusal, wanted::fault(code, disks, symbols, position), &code.file)
-        }
-        _ => code.explain(refusal, disks, None, 0),
-    })?;
-    Ok((planning, symbols.map_or(Wanted::All, Wanted::Symbols)))
-}
-
-/// The planner's answer: for one disk a sheet of edition 1, or of edition 2 with a list; for several disks one of edition 3.
-fn plan_for(code: &Code, disks: &Disks, symbols: Option<&[u64]>) -> Result<Planning, Refusal> {
-    match (disks.one(), symbols) {
-        (Some(disk), None) => navorzim::plan(&code.sheet, disk),
-        (Some(disk), Some(symbols)) => navorzim::plan_wanted(&code.sheet, disk, &as_bytes(symbols)),
-        (None, symbols) => navorzim::plan_disks(&code.sheet, &disks.as_bytes(), &as_bytes(symbols.unwrap_or(&[]))),
-    }
-}
-
-/// A pattern, with those of the wanted symbols that have a plan by themselves.
-fn stuck(code: &Code, disks: Disks, wanted: Wanted, bits: u64) -> Stuck {
-    let has_plan = |&symbol: &u64| matches!(plan_for(code, &disks, Some(&[symbol])), Ok(Planning::Plan { .. }));
-    let lost = (0..code.symbols()).filter(|&symbol| disks.has(code.disk_of(symbol)) && wanted.has(symbol));
-    let within_reach = lost.map(|symbol| symbol as u64).filter(has_plan).collect();
-    Stuck { disks, wanted, bits, within_reach }
-}
-
-/// How a command ends that met a pattern.
-fn no_plan(text: String, code: Code, stuck: &Stuck) -> Failure {
-    let what = stuck.wanted.cannot_be_rebuilt(&code, &stuck.disks);
-    Failure::NoPlan { text, what, code: code.file }
-}
-
-/// How many symbols a plan reads, if it is accepted.
-fn checked(code: &Code, disks: &Disks, plan: &Plan) -> Result<u64, Failure> {
-    let reads = navorzim::check_disks(&code.sheet, &disks.as_bytes(), &plan.sheet);
-    reads.map_err(|refusal| code.explain(refusal, disks, Some(plan), 0))
-}
-
 /// The planner's answer as a story; its plan is checked like any other.
 fn planned_story(code: &Code, disks: Disks, request: Option<&Request>) -> Result<Story, Failure> {
-    match planned(code, &disks, request)? {
-        (Planning::Pattern(bits), wanted) => Ok(Story::Stuck(stuck(code, disks, wanted, bits))),
-        (Planning::Plan { plan, .. }, _) => {
-            let plan = Plan { file: code.file.clone(), sheet: plan };
-            checked_story(code, disks, &plan)
-        }
+    match plan_anew(code, &disks, &Wanted::asked_for(request, code, &disks))? {
+        Ok(plan) => checked_story(code, disks, &plan),
+        Err(stuck) => Ok(Story::Stuck(stuck)),
     }
 }
 
@@ -330,7 +332,7 @@ fn checked_story(code: &Code, disks: Disks, plan: &Plan) -> Result<Story, Failur
 }
 
 /// Any refusal but the one that a call without bytes must end in.
-fn all_but(answer: Result<(), Refusal>, expected: Refusal) -> Result<(), Refusal> {
+pub fn all_but(answer: Result<(), Refusal>, expected: Refusal) -> Result<(), Refusal> {
     match answer {
         Err(refusal) if refusal != expected => Err(refusal),
         _ => Ok(()),

@@ -1,9 +1,12 @@
-//! The demonstration: a disk lost and brought back, one row for somebody who waits, the day of the incident, and a disk that can't be
+//! The demonstration: disks lost and brought back, the day of the incident, one row for somebody who waits, and a disk that can't be
 //! brought back. It runs the tool's own commands over files, tests what comes of each, and fails if anything is other than it must be.
 use crate::arguments::Arguments;
 use crate::commands;
 use crate::failure::{printable, Failure};
-use crate::replacement::{replace, unique_name};
+use crate::files::trouble;
+use crate::folders::make_or_take;
+use crate::output::put;
+use crate::replacement::unique_name;
 use std::ffi::OsString;
 use std::fs;
 use std::path::{Path, PathBuf};
@@ -37,15 +40,7 @@ impl Folder {
     fn make(keep: Option<PathBuf>) -> Result<Folder, Failure> {
         let kept = keep.is_some();
         let path = keep.unwrap_or_else(|| std::env::temp_dir().join(unique_name()));
-        let trouble = |why: &str| Failure::File(format!("can't use {}: {why}", printable(&path)));
-        if kept && path.is_dir() {
-            let mut files = fs::read_dir(&path).map_err(|error| trouble(&error.to_string()))?;
-            if files.next().is_some() {
-                return Err(trouble("it isn't empty"));
-            }
-        } else {
-            fs::create_dir(&path).map_err(|error| trouble(&error.to_string()))?;
-        }
+        make_or_take(&path)?;
         Ok(Folder { path, kept })
     }
 }
@@ -65,9 +60,9 @@ struct Demo {
 
 impl Demo {
     fn tell(&mut self) -> Result<(), Failure> {
-        self.rebuild_a_disk()?;
-        self.rebuild_one_row()?;
+        self.lose_disks()?;
         self.run_an_old_plan()?;
+        self.rebuild_one_row()?;
         self.meet_a_pattern()?;
         self.say("");
         self.say("Everything came out right.");
@@ -77,41 +72,73 @@ impl Demo {
         Ok(())
     }
 
-    fn rebuild_a_disk(&mut self) -> Result<(), Failure> {
-        self.say("A disk is lost and brought back");
+    fn lose_disks(&mut self) -> Result<(), Failure> {
+        self.say("A register on seven disks: one is lost and brought back, then two");
         self.command("family liberation 5 5 -o code.sheet")?;
         self.write("register.txt", register().as_bytes())?;
         self.note("register.txt: 50 lines of 64 bytes, a line a symbol, 25 a stripe");
-        self.command("encode code.sheet --symbol 64 register.txt -o stripes.bin")?;
-        let whole = self.read("stripes.bin")?;
-        self.command("strip code.sheet 0 --symbol 64 stripes.bin -o disk0.bin")?;
-        let strip = self.read("disk0.bin")?;
-        self.note(&format!("disk 0 begins  {}", first_line(&strip)));
+        self.command("split code.sheet --symbol 64 register.txt -o array/")?;
+        let (disk_0, disk_3) = (self.read("array/disk-0")?, self.read("array/disk-3")?);
+        self.note(&format!("disk 0 begins  {}", first_line(&disk_0)));
 
-        let ruined = ruin(&whole);
-        self.write("stripes.bin", &ruined)?;
-        self.note(&format!("disk 0 dies:   {}", first_line(&ruined)));
+        self.lose("array/disk-0")?;
+        self.command("status array/")?;
+        self.command("restore array/")?;
+        let restored = self.read("array/disk-0")?;
+        self.note(&format!("disk 0 begins  {}", first_line(&restored)));
+        self.must(restored == disk_0, "disk 0 isn't as it was")?;
+        self.note(&format!("compared: all {} bytes of array/disk-0 are as they were", restored.len()));
 
+        self.lose("array/disk-0")?;
+        self.lose("array/disk-3")?;
+        self.command("restore array/")?;
+        let restored = [self.read("array/disk-0")?, self.read("array/disk-3")?];
+        self.must(restored == [disk_0, disk_3], "disks 0 and 3 aren't as they were")?;
+        self.command("join array/ -o joined.txt")?;
+        let joined = self.read("joined.txt")?;
+        self.must(joined == register().as_bytes(), "the register isn't as it was")?;
+        self.note(&format!("compared: all {} bytes of register.txt are in joined.txt", joined.len()));
+        self.say("");
+        self.draw("show code.sheet --disk 0 --svg plan.svg")
+    }
+
+    fn run_an_old_plan(&mut self) -> Result<(), Failure> {
+        self.say("");
+        self.say("The day of the incident: the plan is cached, the array is laid out anew");
         self.command("plan code.sheet 0 -o plan.sheet")?;
         self.command("check code.sheet 0 plan.sheet")?;
-        self.command("rebuild code.sheet 0 plan.sheet --symbol 64 stripes.bin --in-place")?;
-        let rebuilt = self.read("stripes.bin")?;
-        self.note(&format!("disk 0 begins  {}", first_line(&rebuilt)));
-        self.must(rebuilt == whole, "the stripes are not as they were")?;
-        self.must(ruined != whole, "nothing was ruined")?;
-        let all = whole.len();
-        self.note(&format!("compared: all {all} bytes are as they were"));
-        self.say("");
-        self.draw("show code.sheet --disk 0 --plan plan.sheet --svg plan.svg")?;
+        let sheet = self.read("code.sheet")?;
+        self.write("anew.sheet", &parities_swapped(&sheet))?;
+        self.note("anew.sheet: the same shape, the two parity disks have changed places");
+        self.command("split anew.sheet --symbol 64 register.txt -o anew/")?;
+        let disk_0 = self.read("anew/disk-0")?;
+        self.lose("anew/disk-0")?;
+
+        self.refused("check anew.sheet 0 plan.sheet", 21)?;
+        self.refused("restore anew/ --plan plan.sheet", 21)?;
+        let none = !self.folder.path.join("anew/disk-0").exists();
+        self.must(none, "a refused restore wrote a disk")?;
+        self.note("compared: anew/disk-0 is still missing, nothing wrong has taken its place");
+
+        self.command("family liberation 5 4 -o smaller.sheet")?;
+        self.refused("check smaller.sheet 0 plan.sheet", 15)?;
+
+        self.note("planned anew, for the layout in use:");
+        self.command("restore anew/")?;
+        let restored = self.read("anew/disk-0")?;
+        self.must(restored == disk_0, "disk 0 isn't as it was")?;
+        self.note(&format!("disk 0 begins  {}", first_line(&restored)));
         Ok(())
     }
 
     fn rebuild_one_row(&mut self) -> Result<(), Failure> {
         self.say("");
-        self.say("Somebody waits for one entry: row 2 of disk 0 is enough");
+        self.say("Somebody waits for one entry, in a file of stripes: row 2 of disk 0 is enough");
+        self.command("encode code.sheet --symbol 64 register.txt -o stripes.bin")?;
         let whole = self.read("stripes.bin")?;
         let ruined = ruin(&whole);
         self.write("stripes.bin", &ruined)?;
+        self.note(&format!("disk 0 dies:   {}", first_line(&ruined)));
         self.command("plan code.sheet 0 --want 2 -o row2.sheet")?;
         self.command("rebuild code.sheet 0 row2.sheet --symbol 64 stripes.bin --in-place")?;
         let rebuilt = self.read("stripes.bin")?;
@@ -121,37 +148,6 @@ impl Demo {
             self.must(each(&rebuilt, symbol) == expected, "row 2 isn't back, or another symbol has changed")?;
         }
         self.note("compared: row 2 is as it was, and no other byte has changed");
-        Ok(())
-    }
-
-    fn run_an_old_plan(&mut self) -> Result<(), Failure> {
-        self.say("");
-        self.say("The day of the incident: the plan is cached, the array is laid out anew");
-        let sheet = self.read("code.sheet")?;
-        self.write("anew.sheet", &parities_swapped(&sheet))?;
-        self.note("anew.sheet: the same shape, the two parity disks have changed places");
-        self.command("encode anew.sheet --symbol 64 register.txt -o stripes.bin")?;
-        let whole = self.read("stripes.bin")?;
-        let ruined = ruin(&whole);
-        self.write("stripes.bin", &ruined)?;
-        self.note(&format!("disk 0 dies:   {}", first_line(&ruined)));
-
-        self.refused("check anew.sheet 0 plan.sheet", 21)?;
-        let rebuild = "rebuild anew.sheet 0 plan.sheet --symbol 64 stripes.bin --in-place";
-        self.refused(rebuild, 21)?;
-        let after = self.read("stripes.bin")?;
-        self.must(after == ruined, "a refused rebuild changed the stripes")?;
-        self.note("compared: not a byte of stripes.bin has changed");
-
-        self.command("family liberation 5 4 -o smaller.sheet")?;
-        self.refused("check smaller.sheet 0 plan.sheet", 15)?;
-
-        self.note("planned anew, for the layout in use:");
-        self.command("plan anew.sheet 0 -o fresh.sheet")?;
-        self.command("rebuild anew.sheet 0 fresh.sheet --symbol 64 stripes.bin --in-place")?;
-        let rebuilt = self.read("stripes.bin")?;
-        self.must(rebuilt == whole, "the stripes are not as they were")?;
-        self.note(&format!("disk 0 begins  {}", first_line(&rebuilt)));
         Ok(())
     }
 
@@ -219,18 +215,26 @@ impl Demo {
         }
     }
 
-    /// Runs a line of the tool; a word with a dot in it is a file of the folder.
+    /// Removes a disk's file.
+    fn lose(&mut self, name: &str) -> Result<(), Failure> {
+        let path = self.folder.path.join(name);
+        fs::remove_file(&path).map_err(|error| trouble("remove", &path, error))?;
+        self.note(&format!("{name} is lost"));
+        Ok(())
+    }
+
+    /// Runs a line of the tool; a word with a dot or a slash in it is a file of the folder, or a folder in it.
     fn run(&self, line: &str) -> Result<String, Failure> {
         let mut words = line.split(' ');
         let command = words.next().and_then(commands::find);
         let words: Vec<OsString> = words
-            .map(|word| match word.contains('.') {
+            .map(|word| match word.contains(['.', '/']) {
                 true => self.folder.path.join(word).into_os_string(),
                 false => OsString::from(word),
             })
             .collect();
         match command {
-            Some(command) => commands::run(command, words),
+            Some(command) => commands::run(command, words).answer,
             None => Err(Failure::File(format!("no such command: {line}"))),
         }
     }
@@ -248,13 +252,12 @@ impl Demo {
     }
 
     fn write(&self, name: &str, bytes: &[u8]) -> Result<(), Failure> {
-        replace(&self.folder.path.join(name), &[], bytes)
+        put(&self.folder.path.join(name), &[], bytes)
     }
 
     fn read(&self, name: &str) -> Result<Vec<u8>, Failure> {
         let path: &Path = &self.folder.path.join(name);
-        let read = fs::read(path);
-        read.map_err(|error| Failure::File(format!("can't read {}: {error}", printable(path))))
+        fs::read(path).map_err(|error| trouble("read", path, error))
     }
 }
 

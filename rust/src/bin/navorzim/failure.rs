@@ -10,6 +10,8 @@ pub enum Failure {
     Refused(Refused),
     /// The planner answered a pattern: `text` is the answer, for standard output, and `what` a sentence on what can't be rebuilt.
     NoPlan { text: String, what: String, code: PathBuf },
+    /// Something else stands where a disk's file should be: `text` is the answer, for standard output, and `what` says it.
+    InTheWay { text: String, what: String },
     /// The library said no, and there is a picture of why: `text`, for standard output.
     Drawn { text: String, refused: Refused },
     /// The command line can't be understood; `command` is the one whose help is of use.
@@ -48,10 +50,11 @@ impl Failure {
         Failure::Refused(Refused { refusal, detail, file })
     }
 
-    /// 1 for a refusal and for a disk that can't be rebuilt, 2 for everything that never reached the library.
+    /// 1 for a refusal and for disks that can't be rebuilt, 2 for everything that never reached the library.
     pub fn status(&self) -> u8 {
         match self {
-            Failure::Refused(_) | Failure::Drawn { .. } | Failure::NoPlan { .. } | Failure::Unexpected { .. } => 1,
+            Failure::Refused(_) | Failure::Drawn { .. } | Failure::NoPlan { .. } => 1,
+            Failure::InTheWay { .. } | Failure::Unexpected { .. } => 1,
             Failure::Misuse { .. } | Failure::File(_) => 2,
         }
     }
@@ -82,7 +85,9 @@ impl fmt::Display for Failure {
             Failure::Misuse { what, command } => {
                 write!(f, "{what}\n`navorzim {command} --help` says how it is used")
             }
-            Failure::File(what) | Failure::Unexpected { what, .. } => write!(f, "{what}"),
+            Failure::File(what) | Failure::InTheWay { what, .. } | Failure::Unexpected { what, .. } => {
+                write!(f, "{what}")
+            }
         }
     }
 }

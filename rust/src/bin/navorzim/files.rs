@@ -3,23 +3,61 @@ use crate::failure::{printable, Failure};
 use crate::system;
 use std::fs::{self, File, Metadata, OpenOptions, TryLockError};
 use std::io::{self, BufReader, ErrorKind, Read};
+use std::os::fd::AsFd;
 use std::os::unix::fs::{FileTypeExt, MetadataExt, OpenOptionsExt};
 use std::path::{Path, PathBuf};
 
 pub const BUFFER: usize = 1 << 18;
+
+/// Whether a path stands for standard input or output. A file with this name is given as `./-`.
+pub fn is_standard(path: &Path) -> bool {
+    path.as_os_str() == "-"
+}
 
 /// A failure at a file.
 pub fn trouble(verb: &str, path: &Path, why: impl std::fmt::Display) -> Failure {
     Failure::File(format!("can't {verb} {}: {why}", printable(path)))
 }
 
+/// Refuses to go on if a signal asks for the end.
+pub fn go_on(verb: &str, path: &Path) -> Result<(), Failure> {
+    match system::ended_by() {
+        None => Ok(()),
+        Some(signal) => Err(trouble(verb, path, format!("the run was ended by {signal}"))),
+    }
+}
+
 /// A sheet's bytes, but never more than one above the longest: the library refuses those by their length, whatever follows.
 pub fn read_sheet(path: &Path, longest: usize) -> Result<Vec<u8>, Failure> {
-    let file = open_regular(path, Purpose::Read)?;
-    let mut sheet = Vec::new();
-    let read = file.take(longest as u64 + 1).read_to_end(&mut sheet);
-    read.map_err(|error| trouble("read", path, error))?;
+    let mut file = match is_standard(path) {
+        true => standard_input()?,
+        false => open_regular(path, Purpose::Read)?,
+    };
+    let mut sheet = vec![0; longest + 1];
+    let length = fill(&mut file, path, &mut sheet)?;
+    sheet.truncate(length);
     Ok(sheet)
+}
+
+/// Standard input as a file of its own, without the buffer that the standard library keeps.
+fn standard_input() -> Result<File, Failure> {
+    let file = io::stdin().as_fd().try_clone_to_owned();
+    file.map(File::from).map_err(|error| trouble("read", Path::new("-"), error))
+}
+
+/// Fills the piece as far as the bytes go; answers how many there are. A signal ends the wait for them.
+fn fill(from: &mut impl Read, path: &Path, piece: &mut [u8]) -> Result<usize, Failure> {
+    let mut filled = 0;
+    while filled < piece.len() {
+        go_on("read", path)?;
+        match from.read(&mut piece[filled..]) {
+            Ok(0) => break,
+            Ok(more) => filled += more,
+            Err(error) if error.kind() == ErrorKind::Interrupted => {}
+            Err(error) => return Err(trouble("read", path, error)),
+        }
+    }
+    Ok(filled)
 }
 
 /// Which file it is, how long, and when it was last touched.
@@ -111,6 +149,11 @@ impl Held {
         }
     }
 
+    /// How long the file was found to be.
+    pub fn length(&self) -> u64 {
+        self.found.length
+    }
+
     /// The same open file, under the same lock.
     pub fn again(&self) -> Result<Held, Failure> {
         let file = self.file.try_clone().map_err(|error| trouble(self.purpose.verb(), &self.path, error))?;
@@ -150,44 +193,63 @@ fn lock(file: &File, purpose: Purpose) -> Result<(), String> {
     }
 }
 
-/// A file of many stripes, or of their data, that is read piece by piece.
+/// Many stripes, or their data, that are read piece by piece: a regular file, or standard input.
 pub struct Input {
-    held: Held,
+    path: PathBuf,
+    /// none for standard input
+    held: Option<Held>,
     reader: BufReader<File>,
+    /// bytes that have been read
+    taken: u64,
 }
 
 impl Input {
-    /// Opens a regular file: its length has to be known before the first piece is worked on.
     pub fn open(path: &Path, purpose: Purpose) -> Result<Input, Failure> {
-        let held = Held::open(path, purpose)?;
-        let reader = BufReader::with_capacity(BUFFER, held.again()?.file);
-        Ok(Input { held, reader })
+        let (held, file) = if is_standard(path) {
+            (None, standard_input()?)
+        } else {
+            let held = Held::open(path, purpose)?;
+            let file = held.again()?.file;
+            (Some(held), file)
+        };
+        let reader = BufReader::with_capacity(BUFFER, file);
+        Ok(Input { path: path.to_path_buf(), held, reader, taken: 0 })
     }
 
-    pub fn held(&self) -> &Held {
-        &self.held
+    pub fn held(&self) -> Option<&Held> {
+        self.held.as_ref()
     }
 
     pub fn path(&self) -> &Path {
-        &self.held.path
+        &self.path
     }
 
-    pub fn length(&self) -> u64 {
-        self.held.found.length
+    /// How long the file is; nobody knows it of standard input.
+    pub fn length(&self) -> Option<u64> {
+        self.held.as_ref().map(Held::length)
     }
 
-    /// Fills the buffer with the next piece.
-    pub fn read(&mut self, piece: &mut [u8]) -> Result<(), Failure> {
-        let read = self.reader.read_exact(piece);
-        read.map_err(|error| match error.kind() {
-            ErrorKind::UnexpectedEof => self.held.changed(),
-            _ => trouble("read", self.path(), error),
-        })
+    /// How many bytes have been read.
+    pub fn taken(&self) -> u64 {
+        self.taken
+    }
+
+    /// Fills the piece as far as the input goes; answers how many bytes there were. A file goes as far as it was long when it was
+    /// opened.
+    pub fn read(&mut self, piece: &mut [u8]) -> Result<usize, Failure> {
+        let left = self.length().map_or(u64::MAX, |length| length - self.taken);
+        let most = usize::try_from(left).map_or(piece.len(), |left| piece.len().min(left));
+        let filled = fill(&mut self.reader, &self.path, &mut piece[..most])?;
+        self.taken += filled as u64;
+        match &self.held {
+            Some(held) if filled < most => Err(held.changed()),
+            _ => Ok(filled),
+        }
     }
 }
 
 /// What is no regular file, by what it is.
-fn kind(found: &Metadata) -> Option<&'static str> {
+pub fn kind(found: &Metadata) -> Option<&'static str> {
     let kind = found.file_type();
     if kind.is_file() {
         None

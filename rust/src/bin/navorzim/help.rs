@@ -5,9 +5,18 @@ Plans, checks and rebuilds for small disk arrays coded with XOR.
 
 usage: navorzim COMMAND ..
 
-  demo      loses a disk of a small array and brings it back, in front of you
+  demo      loses disks of a small array and brings them back, in front of you
   family    writes the code sheet of a known code
+
+An array is a folder with a file a disk:
+  split     makes an array of a file
+  status    says which disks are there, and whether those that aren't can be rebuilt
+  restore   rebuilds the missing disks
+  join      makes the file of an array again, also where disks are missing
+
+The same with a file of stripes, and with plans:
   encode    makes stripes of data
+  decode    makes data of stripes
   plan      plans how to rebuild disks, or some of their rows, or shows why it can't be done
   check     judges a plan for a code and the lost disks
   rebuild   rebuilds what a plan wants in a file of stripes; the plan is checked first
@@ -19,7 +28,11 @@ A code has n disks of r symbols, N = n × r, and K data symbols; a symbol is L b
 A stripe is N × L bytes, symbol (disk × r + row) after symbol.
 
 DISKS are the lost disks: one, like 3, or several, like 0,3 or 0-2, in any order.
-Numbers are decimal. `--` ends the options. Standard input and output can't be named by -.
+Numbers are decimal. `--` ends the options. A dash, -, stands for standard input where a file
+is read, once in a command, and for standard output after -o and --svg: what the command says
+then goes to standard error. Data and stripes can't come from one and go to the other at once,
+and an array is always a folder.
+
 A file that is written takes the old one's place when it is complete; until then, and
 after any refusal, the old one is as it was. Files are locked (flock) while they are worked
 on; a file that somebody else writes or replaces meanwhile is left to them. Owner, group,
@@ -27,16 +40,16 @@ permissions, access list and attributes stay; what can't be kept is narrowed. A 
 leaves no temporary file; the .navorzim-*.part of a killed run is removed by the next one
 that writes to the folder.
 
-Exit status: 0 done, 1 refused or a disk that can't be rebuilt, 2 misuse or a file that
+Exit status: 0 done, 1 refused or disks that can't be rebuilt, 2 misuse or a file that
 can't be used. A refusal is its number, its place and a sentence, on standard error.
 ";
 
 pub const DEMO: &str = "\
 usage: navorzim demo [--keep DIR]
 
-Makes an array, encodes a register, loses a disk, plans, checks, rebuilds and compares; brings
-one row back for somebody who waits for it; then asks about the same plan under another layout,
-and about a disk that can't be rebuilt.
+Splits a register into an array, loses a disk and restores it, then two, and joins the register
+again; then tries a plan that was kept from another layout; brings one row of a stripe back for
+somebody who waits for it; and asks about a disk that can't be rebuilt.
 
 Works in a temporary folder, which is removed, or in DIR, which must be new or empty.
 Exit status 0 only if everything came out right.
@@ -62,15 +75,98 @@ Refused: 36.
 example: navorzim family liberation 5 5 -o code.sheet
 ";
 
+pub const SPLIT: &str = "\
+usage: navorzim split CODE --symbol L DATA -o ARRAY
+
+Makes an array of the file DATA: the folder ARRAY, which must be new or empty, with a file for
+each disk, disk-0 and so on, and a text, `array`, that describes them. A disk's file holds its
+strip of each stripe, r × L bytes, one after the other. The last stripe is filled up with zeros;
+`array` has the data's length, so that join gives back just what was there.
+
+A file has its name only when it is complete, and `array` comes last.
+
+Needs a code in which each data symbol stands somewhere as it is, as those of all families do:
+else nothing is written.
+
+Refused: the code sheet (1 to 6), 31 (L is 1 to 65,536).
+
+example: navorzim split code.sheet --symbol 64 register.txt -o array/
+";
+
+pub const STATUS: &str = "\
+usage: navorzim status ARRAY
+
+Says of each disk of an array whether its file is there and has the right length, what else is
+in the folder, and whether the disks that aren't there can be rebuilt, and what that reads.
+Nothing is written, and no disk's file is read.
+
+Exit status: 0 if all disks are there, or those that aren't can be restored; 1 if they can't be
+rebuilt, or something else stands in a disk's place.
+
+example: navorzim status array/
+";
+
+pub const RESTORE: &str = "\
+usage: navorzim restore ARRAY [DISKS] [--plan PLAN] [--dry-run]
+
+Rebuilds the missing disks of an array, or of those only DISKS: one like 3, or several like 0,3.
+Plans anew from the code in `array`, has the plan checked, for every block of stripes again,
+and opens only the disks and reads only the symbols that it needs. Surviving disks are never
+written. What stands in a disk's place is never replaced: move it away first. A disk's file has
+its name only when it is complete; it has the rights of a disk that was read.
+
+  --plan PLAN  goes by this plan, which is checked like any other. It must be for all disks that
+               can't be read, and bring the whole disks back
+  --dry-run    says what would be read and written, and does nothing
+
+Refused: the code sheet (1 to 6), 7 (no such disk), the plan (7 and 11 to 25). If no plan can
+bring the disks back, says so, prints the pattern that shows it, and ends with status 1.
+
+example: navorzim restore array/
+example: navorzim restore array/ --dry-run
+";
+
+pub const JOIN: &str = "\
+usage: navorzim join ARRAY -o DATA
+
+Makes the file of an array again, exactly as long as it was. Where disks are missing whose data
+can be rebuilt from the others, that is done on the way; the array stays as it is.
+
+If no plan can bring the data back, says so, prints the pattern that shows it, writes no file
+and ends with status 1.
+
+example: navorzim join array/ -o joined.txt
+";
+
 pub const ENCODE: &str = "\
-usage: navorzim encode CODE --symbol L DATA -o STRIPES
+usage: navorzim encode CODE --symbol L DATA [--length BYTES] -o STRIPES
 
 Reads the code sheet CODE and the file DATA, which holds K × L bytes for each stripe; writes
 as many stripes of N × L bytes to STRIPES.
 
+  --length BYTES  DATA has so many bytes, which need not fill the last stripe: it is filled up
+                  with zeros. Without it DATA must be whole stripes' data, of one stripe or more
+
 Refused: the code sheet (1 to 6), 31 (L is 1 to 65,536), 33 (DATA isn't whole stripes' data).
 
 example: navorzim encode code.sheet --symbol 64 register.txt -o stripes.bin
+";
+
+pub const DECODE: &str = "\
+usage: navorzim decode CODE --symbol L STRIPES [--length BYTES] -o DATA
+
+Reads the code sheet CODE and the stripes of N × L bytes in STRIPES; writes their data, K × L
+bytes for each stripe, to DATA. Each data symbol is read where it stands as it is, and nothing
+is rebuilt.
+
+  --length BYTES  writes so many bytes, those that encode --length took. STRIPES must have just
+                  as many stripes as they fill
+
+Needs a code in which each data symbol stands somewhere as it is, as those of all families do.
+
+Refused: the code sheet (1 to 6), 31 (L is 1 to 65,536), 32 (STRIPES isn't whole stripes).
+
+example: navorzim decode code.sheet --symbol 64 stripes.bin -o decoded.txt
 ";
 
 pub const PLAN: &str = "\
@@ -159,7 +255,7 @@ Reads the code sheet CODE and draws it: disks as columns, rows as cells.
                with status 1
   --want LIST  plans for these symbols of the lost disks only, as plan --want does; the lost
                symbols that aren't wanted are drawn apart
-  --svg FILE   writes the picture to FILE besides
+  --svg FILE   writes the picture to FILE besides, or with - to standard output instead
 
 Colours appear on a terminal, unless NO_COLOR is set; COLUMNS sets the width (else the
 terminal's own, or 80).

@@ -1,18 +1,28 @@
 //! `navorzim`: code sheets, plans and stripes in files, over the proved library.
 //!
-//! Exit status: 0 done, 1 refused or a disk that can't be rebuilt, 2 misuse or a file that can't be used.
+//! Exit status: 0 done, 1 refused or disks that can't be rebuilt, 2 misuse or a file that can't be used.
 #![deny(unsafe_code)]
 
 mod arguments;
+mod array;
+mod arrays;
 mod commands;
 mod demo;
 mod disks;
 mod failure;
 mod files;
+mod folders;
+mod gather;
 mod help;
+mod inventory;
 mod lists;
+mod output;
 mod picture;
+mod planning;
+mod progress;
+mod recovery;
 mod replacement;
+mod restore;
 mod rights;
 mod sheets;
 mod stream;
@@ -22,6 +32,7 @@ mod text;
 mod wanted;
 
 use arguments::shown;
+use commands::Ran;
 use failure::Failure;
 use std::ffi::{OsStr, OsString};
 use std::io::{self, ErrorKind, Write};
@@ -30,30 +41,29 @@ use std::process::ExitCode;
 fn main() -> ExitCode {
     let given: Vec<OsString> = std::env::args_os().skip(1).collect();
     system::watch_signals();
-    let answer = answer(given);
+    let Ran { answer, aside } = answer(given);
     // All files are closed and the temporary ones are gone.
     system::obey_signals();
     match answer {
-        Ok(text) => ExitCode::from(print(&text, 0)),
-        Err(failure) => ExitCode::from(complain(&failure)),
+        Ok(text) => ExitCode::from(print(&text, aside, 0)),
+        Err(failure) => ExitCode::from(complain(&failure, aside)),
     }
 }
 
 /// What the command line asks for.
-fn answer(given: Vec<OsString>) -> Result<String, Failure> {
+fn answer(given: Vec<OsString>) -> Ran {
     let mut given = given.into_iter();
     let Some(first) = given.next() else {
-        return Err(misuse("no command is given".to_string()));
+        return Err(misuse("no command is given".to_string())).into();
     };
     match first.to_str() {
-        Some("help" | "--help" | "-h") => help_for(given),
+        Some("help" | "--help" | "-h") => help_for(given).into(),
         Some("--version" | "-V") => {
-            nothing_more(given)?;
-            Ok(format!("navorzim {}\n", env!("CARGO_PKG_VERSION")))
+            nothing_more(given).map(|()| format!("navorzim {}\n", env!("CARGO_PKG_VERSION"))).into()
         }
         name => match name.and_then(commands::find) {
             Some(command) => commands::run(command, given),
-            None => Err(unknown(&first)),
+            None => Err(unknown(&first)).into(),
         },
     }
 }
@@ -84,8 +94,13 @@ fn misuse(what: String) -> Failure {
     Failure::Misuse { what, command: "" }
 }
 
-/// Prints an answer; the work is done by then, so a reader who has gone away changes nothing of its status.
-fn print(text: &str, status: u8) -> u8 {
+/// Prints an answer, or says it aside where standard output has taken other bytes; the work is done by then, so a reader who has gone
+/// away changes nothing of its status.
+fn print(text: &str, aside: bool, status: u8) -> u8 {
+    if aside {
+        let _ = write!(io::stderr(), "{text}");
+        return status;
+    }
     let mut out = io::stdout().lock();
     match out.write_all(text.as_bytes()).and_then(|()| out.flush()) {
         Err(error) if error.kind() != ErrorKind::BrokenPipe => {
@@ -96,12 +111,13 @@ fn print(text: &str, status: u8) -> u8 {
     }
 }
 
-fn complain(failure: &Failure) -> u8 {
+fn complain(failure: &Failure, aside: bool) -> u8 {
     let status = match failure {
-        Failure::NoPlan { text, .. } | Failure::Drawn { text, .. } | Failure::Unexpected { text, .. } => {
-            print(text, failure.status())
-        }
-        _ => failure.status(),
+        Failure::NoPlan { text, .. }
+        | Failure::InTheWay { text, .. }
+        | Failure::Drawn { text, .. }
+        | Failure::Unexpected { text, .. } => print(text, aside, failure.status()),
+        Failure::Refused(_) | Failure::Misuse { .. } | Failure::File(_) => failure.status(),
     };
     let _ = writeln!(io::stderr(), "navorzim: {failure}");
     status

@@ -240,8 +240,7 @@ fn brought_back(code: &Code, disks: &Disks, wanted: &Wanted, steps: &[Step]) -> 
             };
         }
     }
-    let lost = (0..code.symbols()).filter(|&symbol| disks.has(code.disk_of(symbol)) && wanted.has(symbol));
-    lost.map(|symbol| (symbol, sums[symbol])).collect()
+    wanted.symbols(code, disks).into_iter().map(|symbol| (symbol as usize, sums[symbol as usize])).collect()
 }
 
 /// A clear has a source byte, but it reads nothing.
@@ -303,8 +302,13 @@ fn made_of(code: &Code, disks: &Disks, wanted: &Wanted, steps: &[Step], symbol: 
 }
 
 impl Stuck {
+    /// The notes, a line each.
+    pub fn text(&self, code: &Code) -> String {
+        self.notes(code).iter().map(|note| format!("{note}\n")).collect()
+    }
+
     /// Why no plan can be: what the pattern is, what it shows, and what is left to be done.
-    pub fn notes(&self, code: &Code) -> Vec<String> {
+    fn notes(&self, code: &Code) -> Vec<String> {
         let Stuck { disks, bits, .. } = self;
         let beyond = match &self.wanted {
             Wanted::All if disks.count() == 1 => "it".to_string(),
@@ -345,9 +349,8 @@ impl Stuck {
 
     /// The wanted symbols that differ in stripes that differ by the pattern.
     fn differing(&self, code: &Code) -> Vec<u64> {
-        let odd = |&symbol: &usize| (code.sums[symbol] & self.bits).count_ones() % 2 == 1;
-        let lost = (0..code.symbols()).filter(|&symbol| self.disks.has(code.disk_of(symbol)));
-        lost.filter(|&symbol| self.wanted.has(symbol)).filter(odd).map(|symbol| symbol as u64).collect()
+        let odd = |&symbol: &u64| (code.sums[symbol as usize] & self.bits).count_ones() % 2 == 1;
+        self.wanted.symbols(code, &self.disks).into_iter().filter(odd).collect()
     }
 }
 

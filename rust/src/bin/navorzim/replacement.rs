@@ -1,12 +1,12 @@
 //! Files that are written: the new version takes the old one's place whole or not at all.
 use crate::failure::{printable, Failure};
-use crate::files::{trouble, Held, Input, Purpose, BUFFER};
+use crate::files::{go_on, is_standard, trouble, Held, Purpose, BUFFER};
 use crate::{rights, system};
 use std::ffi::OsStr;
 use std::fs::{self, File, Metadata, OpenOptions, TryLockError};
 use std::io::{self, BufWriter, ErrorKind, Write};
 use std::os::fd::AsFd;
-use std::os::unix::fs::{MetadataExt, OpenOptionsExt};
+use std::os::unix::fs::{FileExt, MetadataExt, OpenOptionsExt};
 use std::path::{Path, PathBuf};
 use std::time::{SystemTime, UNIX_EPOCH};
 
@@ -20,11 +20,23 @@ pub struct Replacement {
     folder: File,
     /// what stands there now
     old: Option<Held>,
-    /// the file whose owner, group and permissions the new one gets
-    model: File,
+    /// whose owner, group and permissions the new one gets
+    model: Model,
     /// none once it has taken the target's place
     temporary: Option<PathBuf>,
     writer: BufWriter<File>,
+    /// whether all of it is on the disk
+    complete: bool,
+}
+
+/// Whose rights a new file gets.
+pub enum Model {
+    /// those of the old version, with its attributes
+    Old(File),
+    /// those of a file that belongs with it
+    Like(File),
+    /// those that any program gives a new file
+    New,
 }
 
 impl Replacement {
@@ -37,64 +49,105 @@ impl Replacement {
             }
             Err(error) if error.kind() == ErrorKind::NotFound => {
                 new_target(path)?;
-                Replacement::at(path, path.to_path_buf(), None)
+                Replacement::at(path, path.to_path_buf(), None, Model::New)
             }
             Err(error) => Err(trouble("write", path, error)),
         }
     }
 
-    /// Begins a new version of an input, which must be none of `kept`.
-    pub fn in_place(input: &Input, kept: &[&Path]) -> Result<Replacement, Failure> {
-        keep_apart(input.path(), kept)?;
-        Replacement::of(input.held().again()?)
+    /// Begins a file that must not be there yet.
+    pub fn begin_new(path: &Path, model: Model) -> Result<Replacement, Failure> {
+        match fs::symlink_metadata(path) {
+            Ok(_) => Err(trouble("write", path, "it exists, and isn't replaced")),
+            Err(error) if error.kind() == ErrorKind::NotFound => {
+                new_target(path)?;
+                Replacement::at(path, path.to_path_buf(), None, model)
+            }
+            Err(error) => Err(trouble("write", path, error)),
+        }
+    }
+
+    /// Begins a new version of a file that is read, which must be none of `kept`.
+    pub fn in_place(held: &Held, kept: &[&Path]) -> Result<Replacement, Failure> {
+        keep_apart(&held.path, kept)?;
+        Replacement::of(held.again()?)
     }
 
     fn of(old: Held) -> Result<Replacement, Failure> {
         let named = old.path.clone();
         let target = fs::canonicalize(&named).map_err(|error| trouble("write", &named, error))?;
-        Replacement::at(&named, target, Some(old))
+        let model = Model::Old(old.again()?.file);
+        Replacement::at(&named, target, Some(old), model)
     }
 
-    fn at(named: &Path, target: PathBuf, old: Option<Held>) -> Result<Replacement, Failure> {
-        go_on(named)?;
+    fn at(named: &Path, target: PathBuf, old: Option<Held>, model: Model) -> Result<Replacement, Failure> {
+        go_on("write", named)?;
         // Before anything is written: a folder that can't be opened can't be brought to the disk.
         let folder = File::open(folder_of(&target));
         let folder = folder.map_err(|error| trouble("write", named, format!("its folder: {error}")))?;
         remove_abandoned(folder_of(&target));
         let create = |mode| create_beside(&target, mode).map_err(|error| trouble("write", named, error));
-        let (model, old) = match old {
-            Some(old) => (old.again()?.file, Some(old)),
+        let model = match model {
             // An empty file shows what the folder and the user's mask make of a new one.
-            None => {
+            Model::New => {
                 let (path, model) = create(0o666)?;
                 let _ = fs::remove_file(path);
-                (model, None)
+                Model::Like(model)
             }
+            Model::Old(_) | Model::Like(_) => model,
         };
         let (temporary, file) = create(0o600)?;
+        let (named, temporary) = (named.to_path_buf(), Some(temporary));
         let writer = BufWriter::with_capacity(BUFFER, file);
-        Ok(Replacement { named: named.to_path_buf(), target, folder, old, model, temporary: Some(temporary), writer })
+        Ok(Replacement { named, target, folder, old, model, temporary, writer, complete: false })
     }
 
     /// Adds bytes.
     pub fn write(&mut self, bytes: &[u8]) -> Result<(), Failure> {
-        go_on(&self.named)?;
+        go_on("write", &self.named)?;
         let written = self.writer.write_all(bytes);
         written.map_err(|error| self.trouble(error))
     }
 
-    /// Brings all bytes to the disk, and then the new file to its place, unless somebody else wrote there or in the input
+    /// Writes bytes at a place, which several threads may do at once. A file is written in this way or in the other, not in both.
+    pub fn write_at(&self, bytes: &[u8], place: u64) -> Result<(), Failure> {
+        go_on("write", &self.named)?;
+        let written = self.writer.get_ref().write_all_at(bytes, place);
+        written.map_err(|error| self.trouble(error))
+    }
+
+    /// Brings all bytes to the disk. Until then only the owner sees them.
+    pub fn complete(&mut self) -> Result<(), Failure> {
+        if !self.complete {
+            self.bring_to_disk().map_err(|error| self.trouble(error))?;
+            self.complete = true;
+        }
+        Ok(())
+    }
+
+    fn bring_to_disk(&mut self) -> io::Result<()> {
+        self.writer.flush()?;
+        let file = self.writer.get_ref();
+        match &self.model {
+            Model::Old(old) => rights::take_over(file, old)?,
+            Model::Like(model) => rights::resemble(file, model)?,
+            Model::New => {}
+        }
+        file.sync_all()
+    }
+
+    /// Brings all bytes to the disk, and then the new file to its place, unless somebody else wrote there or in what was read
     /// meanwhile: the comparison is the last that happens before the new file gets its name.
-    pub fn finish(mut self, input: Option<&Input>) -> Result<(), Failure> {
-        self.complete().map_err(|error| self.trouble(error))?;
-        if let Some(input) = input {
-            input.held().unchanged()?;
+    pub fn finish<'a>(mut self, read: impl IntoIterator<Item = &'a Held>) -> Result<(), Failure> {
+        self.complete()?;
+        for held in read {
+            held.unchanged()?;
         }
         if let Some(old) = &self.old {
             old.unchanged()?;
             old.is_at(&self.target)?;
         }
-        go_on(&self.named)?;
+        go_on("write", &self.named)?;
         self.place().map_err(|error| self.trouble(error))?;
         // The new name is in the folder, so the folder too has to reach the disk.
         self.folder.sync_all().map_err(|error| {
@@ -102,13 +155,6 @@ impl Replacement {
                 format!("{error}; {} is complete, but a crash may bring the old one back", printable(&self.named));
             trouble("bring to the disk the folder of", &self.named, why)
         })
-    }
-
-    /// Until all is written only the owner sees it.
-    fn complete(&mut self) -> io::Result<()> {
-        self.writer.flush()?;
-        rights::take_over(self.writer.get_ref(), &self.model)?;
-        self.writer.get_ref().sync_all()
     }
 
     fn place(&mut self) -> io::Result<()> {
@@ -126,14 +172,6 @@ impl Replacement {
             ErrorKind::AlreadyExists => trouble("write", &self.named, "somebody else made it meanwhile"),
             _ => trouble("write", &self.named, error),
         }
-    }
-}
-
-/// Refuses to go on if a signal asks for the end.
-fn go_on(path: &Path) -> Result<(), Failure> {
-    match system::ended_by() {
-        None => Ok(()),
-        Some(signal) => Err(trouble("write", path, format!("the run was ended by {signal}"))),
     }
 }
 
@@ -156,13 +194,6 @@ fn name_new(temporary: &Path, target: &Path) -> io::Result<()> {
     }
 }
 
-/// Writes a small file whole.
-pub fn replace(path: &Path, kept: &[&Path], bytes: &[u8]) -> Result<(), Failure> {
-    let mut replacement = Replacement::begin(path, kept)?;
-    replacement.write(bytes)?;
-    replacement.finish(None)
-}
-
 fn new_target(path: &Path) -> Result<(), Failure> {
     if fs::symlink_metadata(path).is_ok() {
         return Err(trouble("write", path, "it is a link to nothing"));
@@ -180,7 +211,7 @@ fn keep_apart(path: &Path, kept: &[&Path]) -> Result<(), Failure> {
     let identity = |found: &Metadata| (found.dev(), found.ino());
     let target = identity(&fs::metadata(path).map_err(|error| trouble("write", path, error))?);
     let is_target = |found: io::Result<Metadata>| found.is_ok_and(|found| identity(&found) == target);
-    if let Some(kept) = kept.iter().find(|kept| is_target(fs::metadata(kept))) {
+    if let Some(kept) = kept.iter().find(|kept| !is_standard(kept) && is_target(fs::metadata(kept))) {
         return Err(trouble("write", path, format!("it is also read, as {}", printable(kept))));
     }
     let streams =
@@ -244,7 +275,7 @@ fn remove_abandoned(folder: &Path) {
 }
 
 /// Whether a name is one that `create_beside` gives, and no user's.
-fn is_temporary(name: &OsStr) -> bool {
+pub fn is_temporary(name: &OsStr) -> bool {
     let parts = name.to_str().and_then(|name| name.strip_prefix(".navorzim-")?.strip_suffix(".part"));
     let parts: Vec<&str> = parts.unwrap_or("").split('-').collect();
     let hexadecimal = |part: &&str| !part.is_empty() && part.bytes().all(|byte| byte.is_ascii_hexdigit());

@@ -8,9 +8,18 @@ use std::os::unix::fs::{fchown, MetadataExt, PermissionsExt};
 /// The access control list, as the kernel keeps it.
 const LIST: &CStr = c"system.posix_acl_access";
 
-/// Gives a new file, which only its owner can see until now, the owner, group, attributes and permissions of another.
+/// Gives a new version of a file, which only its owner can see until now, the owner, group, attributes and permissions of the old one.
 pub fn take_over(file: &File, old: &File) -> io::Result<()> {
-    let before = old.metadata()?;
+    give(file, old, keep_attributes)
+}
+
+/// Gives a new file, which only its owner can see until now, the owner, group, access list and permissions of another.
+pub fn resemble(file: &File, model: &File) -> io::Result<()> {
+    give(file, model, |_, _| Ok(()))
+}
+
+fn give(file: &File, model: &File, attributes: fn(&File, &File) -> io::Result<()>) -> io::Result<()> {
+    let before = model.metadata()?;
     let (owner, group) = (before.uid(), before.gid());
     // Only root may give a file away, and a group may be set only by its members.
     if fchown(file, Some(owner), Some(group)).is_err() {
@@ -19,8 +28,8 @@ pub fn take_over(file: &File, old: &File) -> io::Result<()> {
     let now = file.metadata()?;
     let (owner_kept, group_kept) = (now.uid() == owner, now.gid() == group);
     let mode = narrowed(before.mode() & 0o7777, owner_kept, group_kept);
-    keep_attributes(file, old)?;
-    let mode = match keep_list(file, old, owner_kept && group_kept) {
+    attributes(file, model)?;
+    let mode = match keep_list(file, model, owner_kept && group_kept) {
         Ok(()) => mode,
         // Without the list nobody knows whom it shut out.
         Err(_) => mode & 0o700,

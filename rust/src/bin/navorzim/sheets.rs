@@ -1,7 +1,7 @@
 //! What stands in the sheets, for messages and pictures. The library alone judges them; these readers come after it.
 use crate::disks::Disks;
 use crate::failure::{Failure, Refused};
-use crate::files::read_sheet;
+use crate::files::{read_sheet, trouble};
 use crate::wanted::{self, Wanted};
 use navorzim::{Family, Refusal, LONGEST_CODE_SHEET, PLAN_BUFFER};
 use std::fmt::{self, Display};
@@ -69,6 +69,20 @@ impl Code {
     /// Where a data symbol stands as it is, if it does.
     pub fn home_of(&self, data_symbol: usize) -> Option<usize> {
         self.sums.iter().position(|&sum| sum.count_ones() == 1 && sum.trailing_zeros() as usize == data_symbol)
+    }
+
+    /// The symbol that each data symbol is read from: a surviving one that is the data symbol alone, or else a lost one.
+    pub fn homes(&self, lost: &Disks) -> Result<Vec<usize>, Failure> {
+        let alone = |t: usize| (0..self.symbols()).filter(move |&symbol| self.sums[symbol] == 1 << t);
+        let home = |t: usize| alone(t).find(|&symbol| !lost.has(self.disk_of(symbol))).or(alone(t).next());
+        let nowhere: Vec<String> = (0..self.data).filter(|&t| home(t).is_none()).map(|t| format!("d{t}")).collect();
+        match nowhere.is_empty() {
+            true => Ok((0..self.data).filter_map(home).collect()),
+            false => {
+                let why = format!("no symbol is {} alone, so that data can't be read again", nowhere.join(" or "));
+                Err(trouble("use", &self.file, why))
+            }
+        }
     }
 
     /// The shape in words.
@@ -238,6 +252,15 @@ impl Plan {
         let first = self.sections().map_or(self.sheet.len(), |sections| sections.steps);
         let steps = self.sheet.get(first..).unwrap_or(&[]).chunks_exact(3);
         steps.map(|step| Step { kind: step[0], target: step[1], source: step[2] }).collect()
+    }
+
+    /// The surviving symbols that an accepted plan reads, rising, each once. A clear has a source byte, but it reads nothing.
+    pub fn sources(&self, code: &Code, lost: &Disks) -> Vec<usize> {
+        let read = self.steps().into_iter().filter(|step| step.kind != 0).map(|step| usize::from(step.source));
+        let mut read: Vec<usize> = read.filter(|&symbol| !lost.has(code.disk_of(symbol))).collect();
+        read.sort_unstable();
+        read.dedup();
+        read
     }
 
     /// What a refusal's sentence leaves open.

@@ -1,14 +1,14 @@
-//! Long files, worked on stripe by stripe: no more than one stripe is in memory at a time.
+//! Long inputs, worked on stripe by stripe: no more than one stripe is in memory at a time.
 use crate::failure::Failure;
-use crate::files::{Input, Purpose};
+use crate::files::{trouble, Input, Purpose};
+use crate::output::Output;
+use crate::progress::Progress;
 use crate::replacement::Replacement;
-use crate::sheets::Code;
+use crate::sheets::{counted, Code};
 use navorzim::Refusal;
-use std::io::{stderr, IsTerminal, Write};
 use std::path::Path;
-use std::time::{Duration, Instant};
 
-/// What a file of many stripes holds, piece by piece.
+/// What an input of many stripes holds, piece by piece.
 pub struct Pieces {
     /// how many symbols a piece has, as the rules call it: N or K
     pub name: &'static str,
@@ -34,79 +34,105 @@ impl Pieces {
         usize::try_from(self.symbol_length).unwrap_or(usize::MAX).saturating_mul(self.symbols).max(1)
     }
 
-    /// How many pieces the file has; refused if it is none, or not whole pieces.
-    fn count(&self, input: &Input) -> Result<u64, Failure> {
-        let (length, piece) = (input.length(), self.length() as u64);
-        if length > 0 && length % piece == 0 {
-            return Ok(length / piece);
-        }
+    /// The refusal of an input of so many bytes that is no piece, or not whole pieces.
+    fn refused(&self, length: u64, path: &Path) -> Failure {
+        let piece = self.length() as u64;
         let detail = format!(
-            "the file has {length} bytes, which is {} × {piece} + {}; {} × L is {} × {} = {piece}",
+            "it has {length} bytes, which is {} × {piece} + {}; {} × L is {} × {} = {piece}",
             length / piece,
             length % piece,
             self.name,
             self.symbols,
             self.symbol_length
         );
-        Err(Failure::refused(self.refusal, detail, input.path()))
+        Failure::refused(self.refusal, detail, path)
     }
 }
 
-/// Works on each piece of a file in turn and puts what comes out of it in place of the target, or of the input where there is no
+/// How an input must end.
+#[derive(Clone, Copy, Debug)]
+pub enum End {
+    /// with a whole piece, after one or more
+    Whole,
+    /// anywhere: the last piece is filled up with zeros
+    Anywhere,
+    /// after so many bytes: the last piece is filled up with zeros
+    After(u64),
+}
+
+/// An input, piece by piece.
+pub struct Stream {
+    input: Input,
+    pieces: Pieces,
+    end: End,
+}
+
+impl Stream {
+    /// Opens an input. Where its length is known, it is tested before the first piece is worked on.
+    pub fn open(path: &Path, pieces: Pieces, end: End, purpose: Purpose) -> Result<Stream, Failure> {
+        let stream = Stream { input: Input::open(path, purpose)?, pieces, end };
+        if let Some(length) = stream.input.length() {
+            stream.ends_well(length)?;
+        }
+        Ok(stream)
+    }
+
+    fn ends_well(&self, length: u64) -> Result<(), Failure> {
+        match self.end {
+            End::Whole if length == 0 || !length.is_multiple_of(self.pieces.length() as u64) => {
+                Err(self.pieces.refused(length, self.input.path()))
+            }
+            End::After(expected) if length != expected => {
+                let why = format!("it has {}, not the {expected} that --length asks for", counted(length, "byte"));
+                Err(trouble("use", self.input.path(), why))
+            }
+            End::Whole | End::Anywhere | End::After(_) => Ok(()),
+        }
+    }
+
+    pub fn input(&self) -> &Input {
+        &self.input
+    }
+
+    /// How many pieces there are, if that is known.
+    pub fn count(&self) -> Option<u64> {
+        self.input.length().map(|length| length.div_ceil(self.pieces.length() as u64))
+    }
+
+    /// Fills the piece with the next one; false if there is none.
+    pub fn next(&mut self, piece: &mut [u8]) -> Result<bool, Failure> {
+        let filled = self.input.read(piece)?;
+        if filled < piece.len() {
+            // Here it ends.
+            self.ends_well(self.input.taken())?;
+            piece[filled..].fill(0);
+        }
+        Ok(filled > 0)
+    }
+}
+
+/// Works on each piece of an input in turn and puts what comes out of it in place of the target, or of the input where there is no
 /// target; answers how many there were. No file of `kept` is replaced, nor the input where a target is named.
 pub fn each(
-    input: &Path,
-    pieces: &Pieces,
+    mut stream: Stream,
     target: Option<&Path>,
     kept: &[&Path],
-    mut work: impl FnMut(&mut [u8], &mut Replacement) -> Result<(), Failure>,
+    mut work: impl FnMut(&mut [u8], &mut Output) -> Result<(), Failure>,
 ) -> Result<u64, Failure> {
-    let purpose = if target.is_some() { Purpose::Read } else { Purpose::ReadAndReplace };
-    let mut input = Input::open(input, purpose)?;
-    let count = pieces.count(&input)?;
-    let mut output = match target {
-        Some(target) => Replacement::begin(target, &[kept, &[input.path()]].concat())?,
-        None => Replacement::in_place(&input, kept)?,
+    let mut output = match (target, stream.input.held()) {
+        (Some(target), _) => Output::begin(target, &[kept, &[stream.input.path()]].concat())?,
+        (None, Some(held)) => Output::File(Box::new(Replacement::in_place(held, kept)?)),
+        (None, None) => return Err(trouble("write", stream.input.path(), "standard input can't be replaced")),
     };
-    let mut piece = vec![0; pieces.length()];
-    let mut progress = Progress::new(count);
-    for done in 0..count {
-        progress.show(done);
-        input.read(&mut piece)?;
+    let mut piece = vec![0; stream.pieces.length()];
+    let progress = Progress::new(stream.count());
+    let mut count = 0;
+    while stream.next(&mut piece)? {
         work(&mut piece, &mut output)?;
+        progress.advance(1);
+        count += 1;
     }
-    output.finish(Some(&input))?;
+    progress.flushing("it".to_string());
+    output.finish(stream.input.held())?;
     Ok(count)
-}
-
-/// Tells somebody at a terminal how far long work has come.
-struct Progress {
-    all: u64,
-    watched: bool,
-    shown: bool,
-    next: Instant,
-}
-
-impl Progress {
-    fn new(all: u64) -> Progress {
-        Progress { all, watched: stderr().is_terminal(), shown: false, next: Instant::now() + Duration::from_secs(1) }
-    }
-
-    fn show(&mut self, done: u64) {
-        if !self.watched || Instant::now() < self.next {
-            return;
-        }
-        self.next = Instant::now() + Duration::from_millis(200);
-        self.shown = true;
-        let percent = u128::from(done) * 100 / u128::from(self.all.max(1));
-        let _ = write!(stderr(), "\r{done} of {} stripes, {percent} %\x1b[K", self.all);
-    }
-}
-
-impl Drop for Progress {
-    fn drop(&mut self) {
-        if self.shown {
-            let _ = write!(stderr(), "\r\x1b[K");
-        }
-    }
 }

@@ -17,6 +17,7 @@ extern "C" {
     fn fsetxattr(fd: c_int, name: *const c_char, value: *const c_void, size: usize, flags: c_int) -> c_int;
     fn fremovexattr(fd: c_int, name: *const c_char) -> c_int;
     fn signal(number: c_int, handler: usize) -> usize;
+    fn siginterrupt(number: c_int, flag: c_int) -> c_int;
     fn raise(number: c_int) -> c_int;
     fn ioctl(fd: c_int, request: c_ulong, ...) -> c_int;
 }
@@ -115,6 +116,9 @@ pub fn watch_signals() {
             ignored.store(true, Ordering::Relaxed);
             // Sound: no handler is handed over.
             unsafe { signal(*number, IGNORE) };
+        } else {
+            // Sound: two numbers are handed over. A read that waits for somebody's bytes is then given up, and not begun again.
+            unsafe { siginterrupt(*number, 1) };
         }
     }
 }

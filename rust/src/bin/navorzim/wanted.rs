@@ -35,7 +35,7 @@ impl Request {
     }
 
     /// The numbers of the symbols, rising, each once: row j of a disk is symbol disk × r + j.
-    pub fn symbols(&self, code: &Code, disks: &Disks) -> Vec<u64> {
+    fn symbols(&self, code: &Code, disks: &Disks) -> Vec<u64> {
         let origin = |disk: u64| disk.saturating_mul(code.rows as u64);
         let rows = self.rows.iter().cloned().flatten();
         let rows = rows.flat_map(|row| disks.iter().map(move |disk| origin(disk).saturating_add(row)));
@@ -58,6 +58,17 @@ pub enum Wanted {
 }
 
 impl Wanted {
+    /// What a request asks for; without one everything.
+    pub fn asked_for(request: Option<&Request>, code: &Code, disks: &Disks) -> Wanted {
+        request.map_or(Wanted::All, |request| Wanted::Symbols(request.symbols(code, disks)))
+    }
+
+    /// The wanted ones of the lost symbols.
+    pub fn symbols(&self, code: &Code, disks: &Disks) -> Vec<u64> {
+        let lost = (0..code.symbols()).filter(|&symbol| disks.has(code.disk_of(symbol)));
+        lost.filter(|&symbol| self.has(symbol)).map(|symbol| symbol as u64).collect()
+    }
+
     /// Whether a lost symbol is wanted.
     pub fn has(&self, symbol: usize) -> bool {
         match self {

@@ -1,0 +1,182 @@
+//! `split`, `status` and `join`: a file as an array of disks, how the array does, and the file again.
+use crate::arguments::Arguments;
+use crate::array::Array;
+use crate::commands::all_but;
+use crate::disks::Disks;
+use crate::failure::{printable, Failure};
+use crate::files::Purpose;
+use crate::folders::NewFolder;
+use crate::gather::Blocks;
+use crate::inventory::{Found, Inventory};
+use crate::lists::rising;
+use crate::output::Output;
+use crate::planning::{checked, checked_plan, no_plan, plan_anew};
+use crate::progress::Progress;
+use crate::recovery::{reading, Recovery, Room};
+use crate::replacement::{Model, Replacement};
+use crate::sheets::{counted, Code};
+use crate::stream::{End, Pieces, Stream};
+use crate::wanted::Wanted;
+use navorzim::Refusal;
+use std::path::Path;
+
+pub fn split(arguments: &mut Arguments) -> Result<String, Failure> {
+    let (code, data) = (arguments.source("CODE")?, arguments.source("DATA")?);
+    let (symbol_length, folder) = (arguments.symbol_length()?, arguments.folder()?);
+    arguments.finish()?;
+    let code = Code::open(&code)?;
+    // Before anything is written: an array that can't be joined again is of no use.
+    code.homes(&Disks::NONE)?;
+    let explain = |refusal| code.explain(refusal, &Disks::NONE, None, symbol_length);
+    all_but(navorzim::encode(&code.sheet, symbol_length, &[], &mut []), Refusal::DataLength).map_err(explain)?;
+    let stream = Stream::open(&data, Pieces::data(&code, symbol_length), End::Anywhere, Purpose::Read)?;
+    let array = write(stream, Array::new(&folder, code, symbol_length, 0))?;
+    Ok(format!(
+        "wrote {}: {} of {}, and `array`, which describes them\n  {}\n",
+        printable(&folder),
+        counted(array.code.disks, "disk"),
+        counted(array.disk_length(), "byte"),
+        contents(&array)
+    ))
+}
+
+/// Writes an array's disks, and when they are complete its description, with the length that the data turn out to have.
+fn write(mut stream: Stream, array: Array) -> Result<Array, Failure> {
+    let mut folder = NewFolder::make(&array.folder)?;
+    let begin = |disk: usize| Replacement::begin_new(&array.disk(disk), Model::New);
+    let mut disks = (0..array.code.disks).map(begin).collect::<Result<Vec<_>, Failure>>()?;
+    let (code, symbol_length) = (&array.code, array.symbol_length);
+    let mut piece = vec![0; Pieces::data(code, symbol_length).length()];
+    let mut stripe = vec![0; Pieces::stripes(code, symbol_length).length()];
+    let progress = Progress::new(stream.count());
+    while stream.next(&mut piece)? {
+        navorzim::encode(&code.sheet, symbol_length, &piece, &mut stripe)
+            .map_err(|refusal| code.explain(refusal, &Disks::NONE, None, symbol_length))?;
+        for (disk, strip) in disks.iter_mut().zip(stripe.chunks_exact(array.strip_length() as usize)) {
+            disk.write(strip)?;
+        }
+        progress.advance(1);
+    }
+    for (disk, file) in disks.iter_mut().enumerate() {
+        progress.flushing(array.name(disk).to_string());
+        file.complete()?;
+    }
+    let length = stream.input().taken();
+    let array = Array::new(&array.folder, array.code, symbol_length, length);
+    let mut description = Replacement::begin_new(&array.description(), Model::New)?;
+    description.write(array.text().as_bytes())?;
+    for (disk, file) in disks.into_iter().enumerate() {
+        folder.place(file, array.disk(disk), stream.input().held())?;
+    }
+    description.finish(stream.input().held())?;
+    folder.keep();
+    Ok(array)
+}
+
+/// How much an array holds.
+fn contents(array: &Array) -> String {
+    format!(
+        "{} of data in {}, symbols of {} (L)",
+        counted(array.length, "byte"),
+        counted(array.stripes, "stripe"),
+        counted(array.symbol_length, "byte")
+    )
+}
+
+pub fn status(arguments: &mut Arguments) -> Result<String, Failure> {
+    let folder = arguments.file("ARRAY")?;
+    arguments.finish()?;
+    let (array, _) = Array::open(&folder)?;
+    let inventory = Inventory::take(&array)?;
+    let mut text = format!("{}: {}\n  {}\n", printable(&folder), array.code.title(), contents(&array));
+    for disk in 0..array.code.disks {
+        text.push_str(&disk_line(&array, &inventory, disk));
+    }
+    for extra in inventory.extra_words() {
+        text.push_str(&format!("  {extra}\n"));
+    }
+    let lost = inventory.lost();
+    if lost.count() == 0 {
+        return Ok(format!("{text}all {} are there\n", counted(array.code.disks, "disk")));
+    }
+    let plan = match plan_anew(&array.code, &lost, &Wanted::All)? {
+        Ok(plan) => plan,
+        Err(stuck) => return Err(no_plan(text + &stuck.text(&array.code), &array.code, &stuck)),
+    };
+    checked(&array.code, &lost, &plan)?;
+    let reading = reading(&array, &plan.sources(&array.code, &lost));
+    text.push_str(&format!("{} can be rebuilt: reads {reading}\n", lost.words()));
+    match (0..array.code.disks).find_map(|disk| Some((disk, inventory.fault(&array, disk)?))) {
+        None => Ok(text),
+        Some((disk, fault)) => {
+            let what = format!("{}: {fault}; move it away to have it restored", printable(&array.disk(disk)));
+            Err(Failure::InTheWay { text, what })
+        }
+    }
+}
+
+/// A disk: its number, what it is for if that is known, its file and how that was found.
+fn disk_line(array: &Array, inventory: &Inventory, disk: usize) -> String {
+    let role = array.code.role(disk).unwrap_or("");
+    let found = match &inventory.disks[disk] {
+        Found::There => counted(array.disk_length(), "byte"),
+        Found::Missing => "missing".to_string(),
+        Found::Length(_) | Found::SameAs(_) | Found::Unfit(_) => inventory.fault(array, disk).unwrap_or_default(),
+    };
+    format!("  disk {disk:<3} {role:<4}  {}  {found}\n", array.name(disk))
+}
+
+pub fn join(arguments: &mut Arguments) -> Result<String, Failure> {
+    let (folder, output) = (arguments.file("ARRAY")?, arguments.output()?);
+    arguments.finish()?;
+    let (array, description) = Array::open(&folder)?;
+    let inventory = Inventory::take(&array)?;
+    array.keep_apart(&output)?;
+    let lost = inventory.lost();
+    let homes = array.code.homes(&lost)?;
+    let is_lost = |&home: &usize| lost.has(array.code.disk_of(home));
+    let (wanted, there): (Vec<usize>, Vec<usize>) = homes.iter().partition(|home| is_lost(home));
+    let plan = match wanted.is_empty() {
+        true => None,
+        false => {
+            let wanted = Wanted::Symbols(rising(wanted.iter().map(|&home| home as u64)));
+            Some(checked_plan(&array.code, &lost, &wanted)?.0)
+        }
+    };
+    let recovery = Recovery::open(&array, &lost, plan.as_ref(), &there)?;
+    let kept: Vec<&Path> = recovery.survivors().held().map(|held| &*held.path).chain([&*description.path]).collect();
+    let mut file = Output::begin(&output, &kept)?;
+    let progress = Progress::new(Some(array.stripes));
+    write_data(&array, &recovery, &homes, &mut file, &progress)?;
+    progress.flushing("it".to_string());
+    file.finish(recovery.survivors().held().chain([&description]))?;
+    let rebuilt = match plan {
+        None => String::new(),
+        Some(_) => format!(", with {} rebuilt on the way", lost.words()),
+    };
+    Ok(format!("wrote {}: {}{rebuilt}\n", printable(&output), counted(array.length, "byte")))
+}
+
+/// Writes the data, stripe by stripe and in each symbol by symbol, as far as they go.
+fn write_data(
+    array: &Array,
+    recovery: &Recovery,
+    homes: &[usize],
+    file: &mut Output,
+    progress: &Progress,
+) -> Result<(), Failure> {
+    let (blocks, length) = (Blocks::of(array), array.symbol_length as usize);
+    let (mut room, mut left) = (Room::new(), array.length);
+    for number in 0..blocks.count() {
+        let block = blocks.block(number);
+        recovery.block(block, &mut room)?;
+        for (nth, home) in (0..block.stripes).flat_map(|nth| homes.iter().map(move |home| (nth, home))) {
+            let at = (home * block.stripes + nth) * length;
+            let symbol = &room.stripe[at..at + length.min(usize::try_from(left).unwrap_or(usize::MAX))];
+            file.write(symbol)?;
+            left -= symbol.len() as u64;
+        }
+        progress.advance(block.stripes as u64);
+    }
+    Ok(())
+}
