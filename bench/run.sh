@@ -6,7 +6,7 @@ set -eu
 cd "$(dirname "$0")/.."
 room=$(mktemp -d)
 trap 'rm -rf "$room"' EXIT
-rt staticlib capi >"$room/log" 2>&1 || { cat "$room/log"; exit 1; }
+sh library.sh >"$room/log" 2>&1 || { cat "$room/log"; exit 1; }
 gcc -O3 -c bench/kernel.c -o "$room/kernel.o"
 others=
 if [ -e /usr/include/jerasure.h ]; then others="$others --cfg jerasure -l Jerasure"; fi

@@ -3,7 +3,7 @@
 set -eu
 cd "$(dirname "$0")/.."
 mkdir -p target
-rt staticlib capi >target/examples.log 2>&1 || { cat target/examples.log; exit 1; }
+sh library.sh >target/examples.log 2>&1 || { cat target/examples.log; exit 1; }
 for program in rebuild nulls; do
     gcc -Wall -Wextra -Werror -Iinclude "examples/c/$program.c" target/staticlib/libcapi.a -o "target/$program"
     "target/$program"
