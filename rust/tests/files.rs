@@ -421,6 +421,7 @@ fn long_work() -> (Vec<u8>, Vec<u8>) {
 const LONG: &str = "rebuild code 0 plan --symbol 1024 stripes --in-place";
 
 fn start(folder: &Folder, line: &str) -> Child {
+    heed_signals();
     let mut tool = Command::new(TOOL);
     let tool = tool.args(line.split_whitespace()).current_dir(&folder.0).env("TMPDIR", &folder.0);
     tool.stdout(Stdio::null()).stderr(Stdio::null()).spawn().expect("it runs")
@@ -431,6 +432,19 @@ const INTERRUPT: i32 = 2;
 const TERMINATE: i32 = 15;
 const CONTINUE: i32 = 18;
 const STOP: i32 = 19;
+
+/// Signals end the children that are started from here on, also where whoever started the tests has them ignored, as a shell does for what it
+/// runs in the background: a child takes that over.
+fn heed_signals() {
+    extern "C" {
+        fn signal(signal: i32, handler: usize) -> usize;
+    }
+    const DEFAULT: usize = 0;
+    for number in [HANG_UP, INTERRUPT, TERMINATE] {
+        // Sound: no handler of ours is set, the system's own is taken up again.
+        unsafe { signal(number, DEFAULT) };
+    }
+}
 
 /// Sends a signal at once: a program that did it would come too late for work of some milliseconds.
 fn send(signal: i32, child: &Child) {
@@ -564,6 +578,7 @@ fn a_restore_that_is_ended_leaves_whole_disks_or_none() {
 
 #[test]
 fn signals_end_the_wait_for_standard_input() {
+    heed_signals();
     let folder = Folder::square();
     for line in ["encode code --symbol 1 - -o out", "check code 0 -", "split code --symbol 1 - -o array"] {
         for signal in [TERMINATE, INTERRUPT] {
