@@ -1,2 +1,2 @@
 pub mod RecoveryLaws
-pub mod FamilyRecovery
+pub mod FamilyLaws

@@ -9,18 +9,22 @@ use Rattle.family_codes.specs.declared.Family.{Family}
 use Rattle.planner.specs.Demand3.{SomePlanAccepted}
 use Rattle.planner.specs.Planning.{Asked, wholeDisk, listedOnSet}
 
--- Each disk has a plan: some plan of any length would be accepted (demand 3)
-abbrev pub EachDiskHasAPlan : LinearCode → Type 0
-EachDiskHasAPlan code = (disk : ℕ) → disk < code .layout .disks → SomePlanAccepted code (wholeDisk disk)
-
--- Each of a family's disks has a plan, for every listed p
-abbrev pub RecoversEachDisk : (ℕ → Family) → Type 0
-RecoversEachDisk family = (p : ℕ) → listed (family p) ≡ true → EachDiskHasAPlan (familyCode (family p))
-
 -- Two disks, whole
 abbrev pub wholePair : ℕ → ℕ → Asked
 wholePair disk other = listedOnSet (disk ∷ other ∷ []) []
 
--- Any two disks have a plan
+-- Any two disks have a plan: some plan of any length would be accepted (demand 3)
 abbrev pub EachPairHasAPlan : LinearCode → Type 0
 EachPairHasAPlan code = (disk other : ℕ) → disk < other → other < code .layout .disks → SomePlanAccepted code (wholePair disk other)
+
+-- Each disk has a plan
+abbrev pub EachDiskHasAPlan : LinearCode → Type 0
+EachDiskHasAPlan code = (disk : ℕ) → disk < code .layout .disks → SomePlanAccepted code (wholeDisk disk)
+
+-- Any two of a family's disks have a plan, for every listed parameter
+abbrev pub RecoversEachPair : (ℕ → Family) → Type 0
+RecoversEachPair family = (parameter : ℕ) → listed (family parameter) ≡ true → EachPairHasAPlan (familyCode (family parameter))
+
+-- Each of them has one
+abbrev pub RecoversEachDisk : (ℕ → Family) → Type 0
+RecoversEachDisk family = (parameter : ℕ) → listed (family parameter) ≡ true → EachDiskHasAPlan (familyCode (family parameter))

@@ -1,1 +1,1 @@
-// What families are for: each disk of their arrays has a plan. Shown over the definitions; there is nothing to run.
+// What families are for: any two disks of their arrays have a plan, and so has each. A test of a code that computes, and is proved sound; there is nothing to run.
