@@ -1,6 +1,6 @@
 -- What goes out to C as a word of 64 bits.
 use Prim.Native.Nat.{ℕ, _^_, _<_}
-use Rattle.planner.specs.Planning.{Found, APlan, APattern}
+use Rattle.planning.specs.Planning.{Found, APlan, APattern}
 use Rattle.refusals.specs.Orders.{Answer, Gives, Refuses}
 
 -- A pattern that does

@@ -10,8 +10,8 @@ use Rattle.family_codes.specs.declared.Family.{Family}
 use Rattle.family_codes.specs.declared.Family.the-variants.{Liberation, RowDiagonal}
 use Rattle.bits.specs.BitSets.{with}
 use Rattle.lines.specs.Lines.{deskText}
-use Rattle.planner.specs.Demand3.{CannotBeRebuilt, IsPlan, Promised}
-use Rattle.planner.specs.Planning.{Asked, Found, APattern, wholeDisk, listedOn, listedOnSet, leastBuffer}
+use Rattle.planning.specs.Demand3.{CannotBeRebuilt, IsPlan, Promised}
+use Rattle.planning.specs.Planning.{Asked, Found, APattern, wholeDisk, listedOn, listedOnSet, leastBuffer}
 use Rattle.rebuild.specs.Rebuild.{stripeAfter}
 use Rattle.refusals.specs.Refusals.{_at_}
 use Rattle.refusals.specs.Orders.{Answer, Gives, Refuses}

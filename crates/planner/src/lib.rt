@@ -1,145 +1,16 @@
 // A plan for lost disks, or for those of their symbols that are wanted, or a pattern that shows that there is none: demand 3.
 ghost use mathlib.Core.Path.{_≡_};
-ghost use mathlib.Core.Bool.{cond};
-ghost use mathlib.Core.List.{_++_};
-ghost use lib.Dec.{eqb};
 ghost use lib.ListN.{length};
-ghost use Rattle.bits.specs.BitSets.{count};
-ghost use Rattle.bits.specs.Numerals.{numeral};
-ghost use Rattle.codes.specs.Codes.{linear, WithinLimits};
-ghost use Rattle.lists.specs.Lists.{listOrder};
-ghost use Rattle.plans.specs.Judgement.{leastWanted};
-ghost use Rattle.refusals.specs.Orders.{Fine, outcome, andThen, firstOf, outcomeOf};
-ghost use Rattle.refusals.specs.Refusals.{_at_};
-ghost use Rattle.planner.specs.Planning.{wholeDisk, listedOn, listedOnSet, leastBuffer, roomFaults, planningFaults, planningVerdict, asPlanned, BufferLeft};
-ghost use Rattle.planner.specs.Demand3.{Demand3, PlansWhereAnyCould, RulesSayDemand2, Promised};
-ghost use Rattle.planner.specs.InnerWork.{Workable, Worked};
+ghost use Rattle.refusals.specs.Orders.{outcomeOf};
+ghost use Rattle.planning.specs.Planning.{wholeDisk, listedOn, listedOnSet, planningVerdict, asPlanned, BufferLeft};
+ghost use Rattle.planning.specs.Demand3.{Demand3, PlansWhereAnyCould, RulesSayDemand2, Promised};
 ghost use Rattle.plan_sheets.specs.InnerPlanSheets.{EditionFits};
-use bits::BitSet;
-use bits::is_empty;
-use code_sheets::Reading;
 use code_sheets::read_code;
-use codes::Code;
 use lists::disk_byte;
-use lists::disks_test;
-use lists::first_bad;
-use lists::list_test;
-use plan_sheets::write_plan;
-use plans::bounds::least_wanted;
-use plans::bounds::most_wanted;
-use plans::loss::loss_of;
-use plans::loss::lost_symbols;
-use refusals::Refusal;
+pub use planning::Planned;
+use planning::plan_test;
+use planning::work_out;
 use refusals::Verdict;
-use solve::eliminate_known;
-use solve::odd_pattern;
-use solve::wanted_subsets;
-
-// What planning answers: a plan sheet's length and read count, a pattern that shows why there is no plan, or the first refusal.
-pub enum Planned {
-    Plan { length: usize, reads: usize },
-    Pattern { pattern: BitSet },
-    Refused(Refusal),
-}
-
-// The least buffer for a sheet of any plan.
-fn least_buffer(edition: usize) -> usize
-    ensures { λ r. ⌜ r ≡ leastBuffer edition ⌝ }
-{
-    if edition == 3 {
-        return 3210;
-    }
-    if edition == 2 {
-        return 3114;
-    }
-    3081
-}
-
-// 23, 34: these symbols are lost and so many listed, and the first bad one is at `bad`.
-fn list_and_room_test(
-    edition: usize,
-    gone: BitSet,
-    listed: usize,
-    bad: usize,
-    buffer_length: usize,
-) -> Verdict
-    ensures { λ r. ⌜ outcome r ≡ firstOf (listOrder listed (leastWanted edition) (cond (eqb edition 1) 0 (count (numeral gone))) bad (23 at 0) (23 at bad) ++ roomFaults edition «buffer_length») ⌝ }
-{
-    let by_count = Refusal::BadWantedList { position: 0 };
-    let by_entry = Refusal::BadWantedList { position: bad };
-    let least = least_wanted(edition);
-    let most = most_wanted(edition, gone);
-    let room = least_buffer(edition);
-    list_test(Verdict::Fine, listed, least, most, bad, by_count, by_entry).or_if(
-        buffer_length < room,
-        Refusal::PlanBufferTooShort,
-    )
-}
-
-// 7, 24, 23, 34, behind the verdict on the code sheet.
-fn plan_test(
-    reading: Reading,
-    edition: usize,
-    disks: &[u8],
-    wanted: &[u8],
-    buffer_length: usize,
-) -> Verdict
-    requires { ⌜ (outcome (reading .verdict) ≡ Fine → WithinLimits (linear (reading .code))) ⌝ }
-    ensures { λ r. ⌜ outcome r ≡ andThen (outcome (reading .verdict)) (planningFaults (reading .code .layout) (record { edition = edition; disks = now (disks .entry); wanted = now (wanted .entry) }) «buffer_length») ⌝ }
-{
-    let read = reading.verdict;
-    let Verdict::Fine = read else {
-        return read;
-    };
-    let code = reading.code;
-    let layout = code.layout;
-    let array_disks = layout.disks;
-    let asked = disks_test(read, array_disks, array_disks, disks);
-    let Verdict::Fine = asked else {
-        return asked;
-    };
-    let gone = lost_symbols(layout, disks);
-    let bad = first_bad(wanted, gone);
-    list_and_room_test(edition, gone, wanted.len(), bad, buffer_length)
-}
-
-// Elimination over the surviving rows. The sheet is written only when every wanted row is known to have its subset.
-fn plan_code(code: Code, edition: usize, disks: &[u8], list: &[u8], buffer: &mut [u8]) -> Planned
-    requires { ⌜ Workable (linear code) (record { edition = edition; disks = now disks; wanted = now list }) (length (now buffer)) ⌝ }
-    ensures { λ r. ⌜ Worked (linear code) (record { edition = edition; disks = now (disks .entry); wanted = now (list .entry) }) (now (buffer .entry)) (now (buffer .exit)) (asPlanned r) ⌝ }
-{
-    let layout = code.layout;
-    let rows = code.rows;
-    let data_symbols = code.data_symbols;
-    let gone = lost_symbols(layout, disks);
-    let loss = loss_of(layout, disks, gone, edition, list);
-    let symbols = loss.symbols;
-    let survivors = loss.survivors;
-    let wanted = loss.wanted;
-    let eliminated = eliminate_known(rows, symbols, data_symbols, survivors);
-    let remaining = eliminated.remaining;
-    let pattern = odd_pattern(remaining, data_symbols, rows, symbols, wanted);
-    if !is_empty(pattern) {
-        return Planned::Pattern { pattern };
-    }
-    let pivots = eliminated.pivots;
-    let surviving = eliminated.surviving;
-    let subsets = wanted_subsets(pivots, surviving, rows, symbols, wanted);
-    let written = write_plan(
-        edition,
-        layout,
-        data_symbols,
-        disks,
-        list,
-        wanted,
-        subsets,
-        buffer,
-    );
-    Planned::Plan {
-        length: written.length,
-        reads: written.reads,
-    }
-}
 
 // Plans for failed disks and a list of wanted symbols; without entries all lost symbols are wanted.
 fn plan_asked(
@@ -156,7 +27,7 @@ fn plan_asked(
     let code = reading.code;
     let verdict = plan_test(reading, edition, disks, wanted, buffer.len());
     let Verdict::Refused(refusal) = verdict else {
-        return plan_code(code, edition, disks, wanted, buffer);
+        return work_out(code, edition, disks, wanted, buffer);
     };
     Planned::Refused(refusal)
 }

@@ -19,11 +19,11 @@ use Rattle.plan_sheets.specs.InnerPlanSheets.{First, Third}
 use Rattle.plans.specs.Judgement.{lost, survives}
 use Rattle.plans.proofs.PatternLaws.{no-plan-if-pattern-odd}
 use Rattle.solve.proofs.OddPatternLaws.{shows-if-found}
-use Rattle.planner.specs.Demand3.{SomePlanAccepted}
-use Rattle.planner.specs.InnerWork.{Workable}
-use Rattle.planner.specs.Planning.{wholeDisk, listedOnSet}
-use Rattle.planner.proofs.WorkLaws.{patternFound, targets, target-wanted, steps-right}
-use Rattle.planner.proofs.CallLaws.{some-plan}
+use Rattle.planning.specs.Demand3.{SomePlanAccepted}
+use Rattle.planning.specs.InnerWork.{Workable}
+use Rattle.planning.specs.Planning.{wholeDisk, listedOnSet}
+use Rattle.planning.proofs.WorkLaws.{patternFound, targets, target-wanted, steps-right}
+use Rattle.planning.proofs.CallLaws.{some-plan}
 use Rattle.recovery.specs.Recovery.{wholePair, EachPairHasAPlan, EachDiskHasAPlan}
 
 -- Whether a test holds of every number below a bound

@@ -6,8 +6,8 @@ use Prim.Native.Nat.{ℕ, _<_}
 use Rattle.codes.specs.Codes.{LinearCode}
 use Rattle.family_codes.specs.Families.{listed, familyCode}
 use Rattle.family_codes.specs.declared.Family.{Family}
-use Rattle.planner.specs.Demand3.{SomePlanAccepted}
-use Rattle.planner.specs.Planning.{Asked, wholeDisk, listedOnSet}
+use Rattle.planning.specs.Demand3.{SomePlanAccepted}
+use Rattle.planning.specs.Planning.{Asked, wholeDisk, listedOnSet}
 
 -- Two disks, whole
 abbrev pub wholePair : ℕ → ℕ → Asked

@@ -6,8 +6,8 @@ use borrow.Author.Needs.{needs}
 use Rattle.answers.specs.Answers.{outPlanned}
 use Rattle.answers.specs.InnerFits.{PatternFits}
 use Rattle.answers.specs.declared.OutPlanned.{OutPlanned}
-use Rattle.planner.specs.Planning.{asPlanned}
-use Rattle.planner.specs.declared.Planned.{Planned}
+use Rattle.planning.specs.Planning.{asPlanned}
+use Rattle.planning.specs.declared.Planned.{Planned}
 use Rattle.answers.proofs.out_planned.Statement.{statement}
 use Rattle.answers.proofs.out_planned.Tie as tie
 

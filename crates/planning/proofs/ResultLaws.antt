@@ -28,11 +28,11 @@ use Rattle.refusals.specs.Orders.{Gives}
 use Rattle.sheets.specs.Buffers.{atFront}
 use Rattle.solve.specs.InnerSolving.{oddPattern, wantedSubsets}
 use Rattle.solve.proofs.RowLaws.{getD-subsets, subsets-below}
-use Rattle.planner.specs.Planning.{Asked, leastBuffer, APlan, APattern}
-use Rattle.planner.specs.Demand3.{askedSymbols, CannotBeRebuilt}
-use Rattle.planner.specs.InnerWork.{Workable, RightSteps, sheetOf, Worked}
-use Rattle.planner.proofs.StripLaws.{lost-at-most, lost-of-one}
-use Rattle.planner.proofs.WorkLaws.{targets, survivingRows, patternsLeft, pivotsFound, patternFound, subsetOf, stepsFound, asked-is-lost, target-wanted, survivors-counted, found-rules-plans-out, steps-right}
+use Rattle.planning.specs.Planning.{Asked, leastBuffer, APlan, APattern}
+use Rattle.planning.specs.Demand3.{askedSymbols, CannotBeRebuilt}
+use Rattle.planning.specs.InnerWork.{Workable, RightSteps, sheetOf, Worked}
+use Rattle.planning.proofs.StripLaws.{lost-at-most, lost-of-one}
+use Rattle.planning.proofs.WorkLaws.{targets, survivingRows, patternsLeft, pivotsFound, patternFound, subsetOf, stepsFound, asked-is-lost, target-wanted, survivors-counted, found-rules-plans-out, steps-right}
 
 -- The least buffer has room for a head and 1,024 steps
 head-room : (edition : ℕ) (disks list : List ℕ) → length disks ≤ 64 → length list ≤ 64 → (edition ≡ 2 → length list ≤ 32)

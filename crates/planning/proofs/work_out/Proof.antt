@@ -1,4 +1,4 @@
--- `planner::plan_code` meets its contract: what the survivors say of the wanted symbols, then a pattern, or the sheet of the steps from the subsets.
+-- `planning::work_out` meets its contract: what the survivors say of the wanted symbols, then a pattern, or the sheet of the steps from the subsets.
 -- Assumes nothing.
 use mathlib.Core.Path.{sym, _∙_}
 use Prim.Native.Nat.{_≤_}
@@ -7,10 +7,10 @@ use borrow.Author.Tests.{not-true, not-false}
 use Rattle.bits.specs.Numerals.{setWidth, numeral, numerals}
 use Rattle.codes.specs.Codes.{LinearCode, linear}
 use Rattle.codes.proofs.LimitLaws.{layout-within}
-use Rattle.planner.specs.Planning.{Asked}
-use Rattle.planner.proofs.ResultLaws.{EliminatedFor, listed-small, disks-below, left-zero-behind, worked-pattern, plan-fits, worked-plan}
-use Rattle.planner.proofs.plan_code.Statement.{statement}
-use Rattle.planner.proofs.plan_code.Tie as tie
+use Rattle.planning.specs.Planning.{Asked}
+use Rattle.planning.proofs.ResultLaws.{EliminatedFor, listed-small, disks-below, left-zero-behind, worked-pattern, plan-fits, worked-plan}
+use Rattle.planning.proofs.work_out.Statement.{statement}
+use Rattle.planning.proofs.work_out.Tie as tie
 
 -- What was asked, and of which code
 abbrev askedOf : tie.Start → Asked
@@ -105,8 +105,8 @@ returns-2 c =
     (sym (tested .before .is-empty .ensures) ∙ not-false _ (tested .if1 .left)) (c .before .before .before .before .wanted-subsets .ensures)
     (written .0) (written .1 .0) (written .1 .1)
 
-pub plan-code-spec : {M : Type 1} → statement M
-plan-code-spec =
+pub work-out-spec : {M : Type 1} → statement M
+work-out-spec =
     tie.close
     (tie.spec
     lost-symbols-requires
