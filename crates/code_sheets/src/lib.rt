@@ -89,15 +89,10 @@ pub fn read_code(sheet: &[u8]) -> Reading
     let height = byte_at(sheet, 3);
     let data_symbols = byte_at(sheet, 4);
     let symbols = byte_at(sheet, 5);
-    let head = head_verdict(
-        sheet.len(),
-        byte_at(sheet, 0),
-        byte_at(sheet, 1),
-        disks,
-        height,
-        data_symbols,
-        symbols,
-    );
+    let count = byte_at(sheet, 0);
+    let edition = byte_at(sheet, 1);
+    let length = sheet.len();
+    let head = head_verdict(length, count, edition, disks, height, data_symbols, symbols);
     let Verdict::Fine = head else {
         return Reading {
             verdict: head,

@@ -78,9 +78,8 @@ pub fn run_on_rows(
     while number < count {
         let reading = read_step(steps, number, symbols, wanted, known);
         let StepReading::Step(step) = reading else {
-            let verdict = verdict_of(reading);
             return Progress {
-                verdict,
+                verdict: verdict_of(reading),
                 rows,
                 known,
                 sources,
