@@ -1,7 +1,7 @@
 /* A disk of a Liberation array (w 5, k 5) dies; one row of it is rebuilt, then all of it; then its plan, under another layout, is turned
  * away.
  *
- *     rt staticlib capi
+ *     sh library.sh
  *     gcc -Wall -Iinclude examples/c/rebuild.c target/staticlib/libcapi.a -o target/rebuild && target/rebuild
  *
  * Exit status 0 only if all of it goes right. */
