@@ -15,7 +15,7 @@ use Rattle.planning.specs.Planning.{Asked, Found, APattern, wholeDisk, listedOn
 use Rattle.rebuild.specs.Rebuild.{stripeAfter}
 use Rattle.refusals.specs.Refusals.{_at_}
 use Rattle.refusals.specs.Orders.{Answer, Gives, Refuses}
-use Rattle.code_rows.specs.CodeRows.{rowBytes}
+use Rattle.code_sheets.specs.CodeSheets.{rowBytes}
 use Rattle.code_sheets.specs.CodeReading.{reading}
 
 -- ------------------------------------------------------------------

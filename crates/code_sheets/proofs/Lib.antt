@@ -1,3 +1,4 @@
+pub mod RowLaws
 pub mod ReadingLaws
 pub mod SheetLaws
 pub mod ReadBackLaws

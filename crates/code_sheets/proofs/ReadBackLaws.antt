@@ -16,9 +16,9 @@ use Rattle.codes.specs.Codes.{LinearCode, WithinLimits, symbols, rowsOf}
 use Rattle.codes.specs.Layouts.{symbolsOf}
 use Rattle.bits.specs.BitSets.{has}
 use Rattle.refusals.specs.Orders.{Fine}
-use Rattle.code_rows.specs.CodeRows.{sheetLength, rowIn, strayAt, firstStray}
+use Rattle.code_limits.specs.CodeLimits.{strayAt, firstStray}
 use Rattle.code_sheets.specs.CodeReading.{codeFaults, codeVerdict, reading}
-use Rattle.code_sheets.specs.CodeSheets.{codeSheet, codeIn}
+use Rattle.code_sheets.specs.CodeSheets.{sheetLength, rowIn, codeSheet, codeIn}
 use Rattle.refusals.proofs.OrderLaws.{NoneHolds, none-holds-means-fine}
 use Rattle.bits.proofs.SearchLaws.{firstFrom-none}
 use Rattle.bits.proofs.SetLaws.{has-above}

@@ -15,13 +15,13 @@ use Rattle.bits.specs.BitSets.{has}
 use Rattle.refusals.specs.Orders.{orIf, firstOf, ifFine, Outcome, Fine, Refused}
 use Rattle.refusals.specs.Refusals.{Numbered, _at_}
 use Rattle.refusals.proofs.OrderLaws.{fine-means-none-holds}
-use Rattle.code_rows.specs.CodeRows.{sheetLength, rowIn, strayAt, firstStray}
-use Rattle.code_sheets.specs.CodeSheets.{codeIn}
-use Rattle.code_sheets.specs.CodeReading.{headFaults, strayFault, codeVerdict, CodeRead, reading}
+use Rattle.code_limits.specs.CodeLimits.{strayAt, firstStray, strayFault}
+use Rattle.code_sheets.specs.CodeSheets.{sheetLength, rowIn, codeIn}
+use Rattle.code_sheets.specs.CodeReading.{headFaults, codeVerdict, CodeRead, reading}
 use Rattle.sheets.proofs.ByteLaws.{lowFirst-below}
 use Rattle.bits.proofs.SearchLaws.{none-if-firstFrom-behind}
 use Rattle.bits.proofs.SetLaws.{below-if-no-high-bits}
-use Rattle.code_rows.proofs.StrayLaws.{strayAt-high}
+use Rattle.code_limits.proofs.StrayLaws.{strayAt-high}
 
 -- ------------------------------------------------------------------
 -- The outcomes

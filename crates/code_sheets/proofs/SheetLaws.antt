@@ -8,9 +8,8 @@ use lib.Seq.{drop-drop, getD-take, length-take-le}
 use Rattle.codes.specs.Codes.{LinearCode, symbols, matrix}
 use Rattle.sheets.specs.Bytes.{lowBytes, lowFirst}
 use Rattle.sheets.proofs.ByteLaws.{lowFirst-lowBytes}
-use Rattle.code_rows.proofs.RowLaws.{length-rowBytes, rowBytes-at}
-use Rattle.code_rows.specs.CodeRows.{rowBytes, sheetLength, rowIn}
-use Rattle.code_sheets.specs.CodeSheets.{codeSheet}
+use Rattle.code_sheets.specs.CodeSheets.{rowBytes, sheetLength, rowIn, codeSheet}
+use Rattle.code_sheets.proofs.RowLaws.{length-rowBytes, rowBytes-at}
 
 -- A sheet has 6 bytes and 8 for each row
 pub length-codeSheet : (code : LinearCode) → symbols code ≤ length (code .rows) → length (codeSheet code) ≡ sheetLength (symbols code)

@@ -6,8 +6,8 @@ use lib.ListN.{length, take, drop}
 use lib.Seq.{sets, sets-eq, drop-append-add, drop-drop}
 use Rattle.codes.specs.Codes.{LinearCode, symbols}
 use Rattle.sheets.specs.Buffers.{atFront}
-use Rattle.code_rows.proofs.RowLaws.{withRows}
 use Rattle.code_sheets.specs.CodeSheets.{codeSheet}
+use Rattle.code_sheets.proofs.RowLaws.{withRows}
 use Rattle.code_sheets.proofs.SheetLaws.{length-codeSheet}
 
 -- Six stores from the front

@@ -8,21 +8,9 @@ use lib.ListN.{length, getD}
 use Rattle.codes.specs.Codes.{LinearCode, linear, noCode}
 use Rattle.refusals.specs.Orders.{Fault, _gets_, firstOf, ifFine, Outcome, outcome}
 use Rattle.refusals.specs.Refusals.{_at_}
-use Rattle.code_rows.specs.CodeRows.{sheetLength, firstStray}
-use Rattle.code_sheets.specs.CodeSheets.{codeIn}
+use Rattle.code_limits.specs.CodeLimits.{limitFaults, strayFault}
+use Rattle.code_sheets.specs.CodeSheets.{sheetLength, codeIn}
 use Rattle.code_sheets.specs.declared.Reading.{Reading}
-
--- n is 2 to 64, r 1 to 32, N at most 64, K 1 to 64
-abbrev pub limitFaults : ℕ → ℕ → ℕ → List Fault
-limitFaults disks height dataSymbols =
-    (ltb disks 2 gets 5 at 0)
-    ∷ (ltb 64 disks gets 5 at 0)
-    ∷ (ltb height 1 gets 5 at 0)
-    ∷ (ltb 32 height gets 5 at 0)
-    ∷ (ltb 64 (disks * height) gets 5 at 0)
-    ∷ (ltb dataSymbols 1 gets 5 at 0)
-    ∷ (ltb 64 dataSymbols gets 5 at 0)
-    ∷ []
 
 -- The order up to the rows, for a sheet of `sheetBytes` bytes
 abbrev pub headFaults : ℕ → ℕ → ℕ → ℕ → ℕ → ℕ → ℕ → List Fault
@@ -35,11 +23,6 @@ headFaults sheetBytes count edition disks height dataSymbols symbols =
     ∷ (ltb sheetBytes (sheetLength symbols) gets 1 at 0)
     ∷ (ltb (sheetLength symbols) sheetBytes gets 2 at 0)
     ∷ []
-
--- A bit at K or above is set
-abbrev pub strayFault : List ℕ → ℕ → ℕ → Fault
-strayFault rows count dataSymbols =
-    ltb (firstStray rows count dataSymbols) (count * 64) gets 6 at firstStray rows count dataSymbols
 
 -- The whole order for a code sheet
 abbrev pub codeFaults : List ℕ → List Fault

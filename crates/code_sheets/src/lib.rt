@@ -2,39 +2,27 @@
 ghost use mathlib.Core.Path.{_≡_};
 ghost use Prim.Native.Nat.{_<_};
 ghost use Rattle.codes.specs.Codes.{linear, noCode, WithinLimits};
-ghost use Rattle.refusals.specs.Orders.{Fine, outcome, firstOf, andThen};
-ghost use Rattle.code_sheets.specs.CodeReading.{limitFaults, headFaults, reading, asRead};
+ghost use Rattle.refusals.specs.Orders.{Fine, outcome, firstOf};
+ghost use Rattle.code_sheets.specs.CodeReading.{headFaults, reading, asRead};
 use bits::empty_sets;
-use code_rows::first_stray;
-use code_rows::read_rows;
-use code_rows::sheet_length;
+use code_limits::first_stray;
+use code_limits::limit_test;
 use codes::Code;
 use codes::Layout;
 use refusals::Refusal;
 use refusals::Verdict;
 use sheets::byte_at;
 
+pub mod rows; // rows.rt: the rows behind the head
 pub mod write; // write.rt: the bytes of a code's sheet
+
+use rows::read_rows;
+use rows::sheet_length;
 
 // What a code sheet says: nothing is wrong with it and this is its code, or the first refusal and no code.
 pub struct Reading {
     pub verdict: Verdict,
     pub code: Code,
-}
-
-// The limits of an array, behind the verdict so far.
-fn limit_test(verdict: Verdict, disks: usize, height: usize, data_symbols: usize) -> Verdict
-    requires { ⌜ (disks < 256) × (height < 256) ⌝ }
-    ensures { λ r. ⌜ outcome r ≡ andThen (outcome verdict) (limitFaults disks height data_symbols) ⌝ }
-{
-    verdict
-        .or_if(disks < 2, Refusal::CodeBeyondLimit)
-        .or_if(64 < disks, Refusal::CodeBeyondLimit)
-        .or_if(height < 1, Refusal::CodeBeyondLimit)
-        .or_if(32 < height, Refusal::CodeBeyondLimit)
-        .or_if(64 < disks * height, Refusal::CodeBeyondLimit)
-        .or_if(data_symbols < 1, Refusal::CodeBeyondLimit)
-        .or_if(64 < data_symbols, Refusal::CodeBeyondLimit)
 }
 
 // The order for a code sheet up to its rows.

@@ -6,7 +6,7 @@ ghost use lib.ListN.{length, take, drop};
 ghost use Rattle.codes.specs.Codes.{linear, WithinLimits};
 ghost use Rattle.sheets.specs.Buffers.{atFront};
 ghost use Rattle.code_sheets.specs.CodeSheets.{codeSheet};
-use code_rows::write_rows;
+use crate::rows::write_rows;
 use codes::Code;
 
 // One byte 4, then edition 1, n, r, K, one byte each; one byte N.

@@ -12,7 +12,7 @@ use Rattle.codes.specs.Layouts.{symbolsOf}
 use Rattle.refusals.specs.Orders.{Fine, Refused, orIf, Gives, Refuses}
 use Rattle.refusals.specs.Refusals.{Numbered, _at_}
 use Rattle.sheets.specs.Buffers.{atFront}
-use Rattle.code_rows.specs.CodeRows.{sheetLength}
+use Rattle.code_sheets.specs.CodeSheets.{sheetLength}
 use Rattle.code_sheets.specs.CodeReading.{reading}
 use Rattle.family_codes.specs.declared.Family.{Family}
 use Rattle.family_codes.specs.Families.{listed, familyLayout, familyCode}

@@ -5,7 +5,7 @@ ghost use lib.ListN.{length};
 ghost use Rattle.family_codes.specs.Families.{listed};
 ghost use Rattle.refusals.specs.Orders.{outcome};
 ghost use Rattle.families.specs.FamilySheets.{familySheet, familyVerdict, asWritten, familyAnswer, familyBuffer, ReadsBack};
-use code_rows::sheet_length;
+use code_sheets::rows::sheet_length;
 use code_sheets::write::write_code;
 pub use family_codes::Family;
 use family_codes::listed::is_listed;

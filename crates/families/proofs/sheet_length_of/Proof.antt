@@ -5,7 +5,7 @@ use Rattle.codes.specs.Layouts.{symbolsOf}
 use Rattle.family_codes.specs.Families.{familyLayout}
 use Rattle.family_codes.proofs.FamilyLaws.{layout-bounds, symbols-to}
 use Rattle.families.proofs.AnswerLaws.{length-familySheet}
-use Rattle.code_rows.specs.CodeRows.{sheetLength}
+use Rattle.code_sheets.specs.CodeSheets.{sheetLength}
 use Rattle.families.proofs.sheet_length_of.Statement.{statement}
 use Rattle.families.proofs.sheet_length_of.Tie as tie
 

@@ -1,9 +1,9 @@
--- `code_rows::row_at` meets its contract: eight bytes, low byte first, are two halves. Assumes nothing.
+-- `code_sheets::rows::row_at` meets its contract: eight bytes, low byte first, are two halves. Assumes nothing.
 use Rattle.sheets.proofs.ByteLaws.{eight-bytes}
 use mathlib.Core.Path.{_∙_}
 use native.Mathlib.Omega.{arith}
-use Rattle.code_rows.proofs.row_at.Statement.{statement}
-use Rattle.code_rows.proofs.row_at.Tie as tie
+use Rattle.code_sheets.proofs.rows.row_at.Statement.{statement}
+use Rattle.code_sheets.proofs.rows.row_at.Tie as tie
 
 half-row-at-requires : tie.Need-half-row-at-requires
 half-row-at-requires c κs = omega arith

@@ -1,8 +1,8 @@
--- `code_sheets::limit_test` meets its contract: the chain of tests is the list of faults. Assumes nothing.
+-- `code_limits::limit_test` meets its contract: the chain of tests is the list of faults. Assumes nothing.
 use native.Mathlib.Nat.{mul-le-mul-right}
 use native.Mathlib.Omega.{arith}
-use Rattle.code_sheets.proofs.limit_test.Statement.{statement}
-use Rattle.code_sheets.proofs.limit_test.Tie as tie
+use Rattle.code_limits.proofs.limit_test.Statement.{statement}
+use Rattle.code_limits.proofs.limit_test.Tie as tie
 
 or-if-requires : tie.Need-or-if-requires
 or-if-requires c κs = tt

@@ -1,13 +1,13 @@
--- `code_rows::write_rows` meets its contract. The invariant: the rows of the symbols passed are stored. Assumes nothing.
+-- `code_sheets::rows::write_rows` meets its contract. The invariant: the rows of the symbols passed are stored. Assumes nothing.
 use mathlib.Core.Path.{_≡_, refl, ap, _∙_}
 use Prim.Native.Nat.{_-_, _≤_}
 use native.Mathlib.Omega.{arith}
 use lib.ListN.{length}
 use Rattle.bits.specs.Numerals.{setWidth, numerals}
 use Rattle.bits.proofs.NumeralLaws.{array-length, length-numerals, getD-numerals}
-use Rattle.code_rows.proofs.RowLaws.{withRows, withRows-none, withRows-more}
-use Rattle.code_rows.proofs.write_rows.Statement.{statement}
-use Rattle.code_rows.proofs.write_rows.Tie as tie
+use Rattle.code_sheets.proofs.RowLaws.{withRows, withRows-none, withRows-more}
+use Rattle.code_sheets.proofs.rows.write_rows.Statement.{statement}
+use Rattle.code_sheets.proofs.rows.write_rows.Tie as tie
 
 abbrev Inv-loop : tie.InvT-loop
 Inv-loop symbols buffer₀ rows symbol₀ buffer symbol =

@@ -1,2 +1,1 @@
 pub mod StrayLaws
-pub mod RowLaws

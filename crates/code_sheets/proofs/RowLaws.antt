@@ -10,7 +10,7 @@ use lib.Pow.{shr-shr}
 use lib.Seq.{take-at, take-suc, drop-append-add, drop-nil, drop-cons, drop-drop, length-take-le}
 use Rattle.sheets.specs.Bytes.{lowBytes}
 use Rattle.sheets.proofs.ByteLaws.{length-lowBytes}
-use Rattle.code_rows.specs.CodeRows.{rowBytes, sheetLength}
+use Rattle.code_sheets.specs.CodeSheets.{rowBytes, sheetLength}
 
 -- ------------------------------------------------------------------
 -- A row

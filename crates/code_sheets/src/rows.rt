@@ -1,4 +1,4 @@
-// The rows of a code sheet behind its head of 6 bytes, read and written, and the first stray bit of rows.
+// The rows of a code sheet behind its head of 6 bytes, read and written.
 ghost use mathlib.Core.Path.{_≡_};
 ghost use mathlib.Core.List.{_++_};
 ghost use Prim.Native.Nat.{_+_, _≤_, _<_};
@@ -6,13 +6,11 @@ ghost use lib.ListN.{length, take, drop};
 ghost use Rattle.bits.specs.Numerals.{setWidth, numeral, numerals};
 ghost use Rattle.codes.specs.Codes.{rowsOf};
 ghost use Rattle.sheets.specs.Bytes.{lowFirst, lowBytes};
-ghost use Rattle.code_rows.specs.CodeRows.{rowBytes, sheetLength, rowIn, firstStray};
+ghost use Rattle.code_sheets.specs.CodeSheets.{rowBytes, sheetLength, rowIn};
 use bits::BitSet;
 use bits::BitSets;
 use bits::byte_of;
 use bits::empty_sets;
-use bits::has;
-use bits::lowest_from;
 use bits::of_word;
 
 // The length of a sheet of so many symbols. It is also where the row of the next symbol stands in a longer sheet.
@@ -62,28 +60,6 @@ pub fn read_rows(sheet: &[u8], symbols: usize) -> BitSets
         s += 1;
     }
     rows
-}
-
-// The first stray bit, as row times 64 plus bit; the place behind the last row where there is none.
-pub fn first_stray(rows: BitSets, symbols: usize, data_symbols: usize) -> usize
-    requires { ⌜ (symbols ≤ setWidth) × (data_symbols ≤ 64) ⌝ }
-    ensures { λ r. ⌜ r ≡ firstStray (numerals rows) symbols data_symbols ⌝ }
-{
-    let mut row = 0;
-    let mut place = symbols * 64;
-    'search: while row < symbols {
-        let bits = rows[row];
-        let mut bit = lowest_from(bits, data_symbols); // 64 in a row without a stray bit
-        while bit < 64 {
-            if has(bits, bit) {
-                place = row * 64 + bit;
-                break 'search;
-            }
-            bit += 1;
-        }
-        row += 1;
-    }
-    place
 }
 
 // A row's 8 bytes, low byte first.

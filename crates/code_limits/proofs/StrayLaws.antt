@@ -8,7 +8,7 @@ use native.Mathlib.Omega.{arith}
 use lib.ListN.{getD}
 use borrow.Author.Tests.{le-leb, lt-leb}
 use Rattle.bits.specs.BitSets.{has}
-use Rattle.code_rows.specs.CodeRows.{strayAt}
+use Rattle.code_limits.specs.CodeLimits.{strayAt}
 
 row-of-place : (row bit : ℕ) → bit < 64 → (row * 64 + bit) / 64 ≡ row
 row-of-place row bit h = omega arith

@@ -1,4 +1,4 @@
--- `code_rows::first_stray` meets its contract. The invariants: no place before the row, and none of the row before the bit, is stray.
+-- `code_limits::first_stray` meets its contract. The invariants: no place before the row, and none of the row before the bit, is stray.
 -- The search in a row begins with the first bit that it has from K on. Assumes nothing.
 use Prim.Native.Nat.{ℕ, _+_, _-_, _*_, _≤_, _<_}
 use mathlib.Core.Path.{_≡_, refl, sym, ap, _∙_}
@@ -11,11 +11,11 @@ use Rattle.bits.specs.BitSets.{has}
 use Rattle.bits.specs.Lists.{firstFrom}
 use Rattle.bits.specs.Numerals.{setWidth, numerals}
 use Rattle.bits.proofs.NumeralLaws.{getD-numerals}
-use Rattle.code_rows.specs.CodeRows.{strayAt}
+use Rattle.code_limits.specs.CodeLimits.{strayAt}
 use Rattle.bits.proofs.SearchLaws.{firstFrom-none, firstFrom-found, firstFrom-between, none-before-firstFrom}
-use Rattle.code_rows.proofs.StrayLaws.{strayAt-high, none-stray-before}
-use Rattle.code_rows.proofs.first_stray.Statement.{statement}
-use Rattle.code_rows.proofs.first_stray.Tie as tie
+use Rattle.code_limits.proofs.StrayLaws.{strayAt-high, none-stray-before}
+use Rattle.code_limits.proofs.first_stray.Statement.{statement}
+use Rattle.code_limits.proofs.first_stray.Tie as tie
 
 abbrev Inv-loop : tie.InvT-loop
 Inv-loop symbols data-symbols rows row place₀ bits bit₀ place bit =

@@ -1,4 +1,4 @@
--- `code_rows::write_row` meets its contract. The invariant: the bytes passed are stored. Assumes nothing.
+-- `code_sheets::rows::write_row` meets its contract. The invariant: the bytes passed are stored. Assumes nothing.
 use mathlib.Core.Path.{_≡_, refl, sym, ap, _∙_}
 use mathlib.Core.List.{_++_}
 use Prim.Native.Nat.{ℕ, _+_, _-_, _≤_}
@@ -9,9 +9,9 @@ use Rattle.bits.specs.Numerals.{numeral}
 use Rattle.sheets.specs.Bytes.{lowBytes}
 use Rattle.sheets.proofs.ByteLaws.{length-lowBytes}
 use Rattle.bits.proofs.StoreLaws.{stored-more, stored-all}
-use Rattle.code_rows.proofs.RowLaws.{getD-lowBytes}
-use Rattle.code_rows.proofs.write_row.Statement.{statement}
-use Rattle.code_rows.proofs.write_row.Tie as tie
+use Rattle.code_sheets.proofs.RowLaws.{getD-lowBytes}
+use Rattle.code_sheets.proofs.rows.write_row.Statement.{statement}
+use Rattle.code_sheets.proofs.rows.write_row.Tie as tie
 
 abbrev Inv-loop : tie.InvT-loop
 Inv-loop row buffer₀ at i₀ buffer i =

@@ -1,8 +1,8 @@
--- `code_rows::half_row_at` meets its contract: four bytes, low byte first. Assumes nothing.
+-- `code_sheets::rows::half_row_at` meets its contract: four bytes, low byte first. Assumes nothing.
 use Rattle.sheets.proofs.ByteLaws.{four-bytes}
 use native.Mathlib.Omega.{arith}
-use Rattle.code_rows.proofs.half_row_at.Statement.{statement}
-use Rattle.code_rows.proofs.half_row_at.Tie as tie
+use Rattle.code_sheets.proofs.rows.half_row_at.Statement.{statement}
+use Rattle.code_sheets.proofs.rows.half_row_at.Tie as tie
 
 shared-slice-read-wide : tie.Need-shared-slice-read-wide
 shared-slice-read-wide c = omega (arith, c .before .before .pre)

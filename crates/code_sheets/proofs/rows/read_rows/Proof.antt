@@ -1,4 +1,4 @@
--- `code_rows::read_rows` meets its contract. The invariant: the rows stored so far are those of the sheet. Assumes nothing.
+-- `code_sheets::rows::read_rows` meets its contract. The invariant: the rows stored so far are those of the sheet. Assumes nothing.
 use Prim.Native.Nat.{ℕ, _-_, _≤_}
 use mathlib.Core.List.{List}
 use mathlib.Core.Path.{_≡_, _∙_, ap}
@@ -9,9 +9,9 @@ use Rattle.bits.proofs.NumeralLaws.{numerals-set}
 use Rattle.codes.specs.Codes.{rowsOf}
 use Rattle.codes.proofs.RowLaws.{rowsOf-none, rowsOf-more}
 use Rattle.sheets.specs.Bytes.{lowFirst}
-use Rattle.code_rows.specs.CodeRows.{rowIn, sheetLength}
-use Rattle.code_rows.proofs.read_rows.Statement.{statement}
-use Rattle.code_rows.proofs.read_rows.Tie as tie
+use Rattle.code_sheets.specs.CodeSheets.{rowIn, sheetLength}
+use Rattle.code_sheets.proofs.rows.read_rows.Statement.{statement}
+use Rattle.code_sheets.proofs.rows.read_rows.Tie as tie
 
 abbrev Inv-loop : tie.InvT-loop
 Inv-loop sheet symbols rows₀ s₀ rows s = (s ≤ symbols) × (numerals rows ≡ rowsOf s (rowIn sheet))
