@@ -21,12 +21,10 @@ use Rattle.gf2.specs.declared.Step.{Step}
 use Rattle.sheets.specs.Buffers.{atFront}
 use Rattle.sheets.proofs.BufferLaws.{length-atFront, front-grows}
 use Rattle.sheets.proofs.PartLaws.{part-to-end}
-use Rattle.plan_steps.specs.PlanSteps.{stepsLength}
-use Rattle.plan_steps.specs.InnerPlanSteps.{stepsBytes, withSteps, subsetPlan, sourceCount, StepsWritable, Tells}
-use Rattle.plan_steps.proofs.StepsWrittenLaws.{count-is-sourceCount}
-use Rattle.plan_sheets.specs.PlanSheets.{PlanHead, firstCount, wantedCountAt, stepsAt, headLength, sheetLength}
-use Rattle.plan_sheets.specs.InnerPlanSheets.{firstNumbers, counted, diskBytes, wantedBytes, sectionsOf, EditionFits, First, Second, Third, planHead, headFor, planSheet, PlanFits}
+use Rattle.plan_sheets.specs.PlanSheets.{PlanHead, firstCount, wantedCountAt, stepsAt, headLength, stepsLength, sheetLength}
+use Rattle.plan_sheets.specs.InnerPlanSheets.{firstNumbers, counted, diskBytes, wantedBytes, sectionsOf, EditionFits, First, Second, Third, planHead, headFor, stepsBytes, planSheet, withSteps, subsetPlan, sourceCount, StepsWritable, Tells, PlanFits}
 use Rattle.plan_sheets.proofs.ReadBackLaws.{length-upToDisks, length-upToLists, length-planHead, length-planSheet}
+use Rattle.plan_sheets.proofs.StepsWrittenLaws.{count-is-sourceCount}
 
 -- ------------------------------------------------------------------
 -- The head

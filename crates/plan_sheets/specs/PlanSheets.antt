@@ -3,17 +3,17 @@
 -- Edition 3: one byte 5, then edition, n, r, K, read count; one byte count and that many lost disks; one byte count and that many wanted symbols.
 -- In each then two bytes step count, low byte first, and 3 bytes a step: kind, target, source.
 use mathlib.Core.Bool.{cond}
-use mathlib.Core.List.{List, map}
-use Prim.Native.Nat.{ℕ, _+_}
+use mathlib.Core.List.{List, [], _∷_, map}
+use Prim.Native.Nat.{ℕ, zero, suc, _+_, _*_}
 use lib.Dec.{eqb}
 use lib.ListN.{getD, take, drop}
 use Rattle.gf2.specs.declared.Step.{Step}
+use Rattle.gf2.specs.declared.Step.the-variants.{Clear, Copy, Add}
 use Rattle.sheets.specs.Bytes.{twoBytesAt}
-use Rattle.plan_steps.specs.PlanSteps.{stepOf, stepsLength, sheetSteps}
-use Rattle.plan_steps.specs.declared.SheetStep.{SheetStep}
 pub use Rattle.plan_sheets.specs.declared.head.PlanHead.{PlanHead}
 pub use Rattle.plan_sheets.specs.declared.head.ListPlace.{ListPlace}
 pub use Rattle.plan_sheets.specs.declared.head.Sections.{Sections}
+pub use Rattle.plan_sheets.specs.declared.step.SheetStep.{SheetStep}
 
 -- What a plan sheet holds; a plan of any length has any number of steps (document 01, "How tight the answers are")
 pub record Plan : Type 0 where
@@ -21,6 +21,10 @@ pub record Plan : Type 0 where
   pub failed : List ℕ
   pub wanted : List ℕ
   pub steps : List SheetStep
+
+-- Kind 0 is clear, kind 1 copy, kind 2 add
+abbrev pub stepOf : SheetStep → Step
+stepOf s = cond (eqb (s .kind) 0) (Clear (s .target)) (cond (eqb (s .kind) 1) (Copy (s .target) (s .source)) (Add (s .target) (s .source)))
 
 -- The steps of a plan
 abbrev pub stepsOf : Plan → List Step
@@ -83,9 +87,29 @@ stepCountAt sections sheet = twoBytesAt sheet (stepsAt sections)
 abbrev pub stepCount : List ℕ → ℕ
 stepCount sheet = stepCountAt (sectionsIn sheet) sheet
 
+-- ------------------------------------------------------------------
+-- The steps
+
+-- The length of so many steps
+abbrev pub stepsLength : ℕ → ℕ
+stepsLength steps = 3 * steps
+
 -- The length of a sheet of so many steps
 abbrev pub sheetLength : Sections → ℕ → ℕ
 sheetLength sections steps = headLength sections + stepsLength steps
+
+-- The step that 3 bytes begin with
+abbrev pub firstStep : List ℕ → SheetStep
+firstStep bytes = record { kind = getD bytes 0 0; target = getD bytes 1 0; source = getD bytes 2 0 }
+
+-- Step `number` of bytes that have steps alone
+abbrev pub stepAt : List ℕ → ℕ → SheetStep
+stepAt bytes number = firstStep (drop (stepsLength number) bytes)
+
+-- So many steps of 3 bytes
+unfoldable pub sheetSteps : ℕ → List ℕ → List SheetStep
+sheetSteps zero bytes = []
+sheetSteps (suc count) bytes = firstStep bytes ∷ sheetSteps count (drop 3 bytes)
 
 -- ------------------------------------------------------------------
 -- The plan of a sheet

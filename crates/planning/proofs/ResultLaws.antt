@@ -20,9 +20,8 @@ use Rattle.gf2.specs.InnerElimination.{remaining, pivots}
 use Rattle.gf2.specs.InnerSubsetPlans.{survivors}
 use Rattle.gf2.specs.declared.Step.{Step}
 use Rattle.gf2.proofs.SubsetPlanLaws.{planOf-same}
-use Rattle.plan_steps.specs.InnerPlanSteps.{subsetPlan, sourceCount}
 use Rattle.plan_sheets.specs.PlanSheets.{listFrom, sectionsFor, headLength}
-use Rattle.plan_sheets.specs.InnerPlanSheets.{EditionFits, First, Second, Third, sectionsOf, PlanFits}
+use Rattle.plan_sheets.specs.InnerPlanSheets.{EditionFits, First, Second, Third, sectionsOf, subsetPlan, sourceCount, PlanFits}
 use Rattle.plans.specs.Judgement.{survives, lostCount}
 use Rattle.plans.proofs.JudgementLaws.{lost-below}
 use Rattle.refusals.specs.Orders.{Gives}

@@ -28,13 +28,12 @@ use Rattle.lists.proofs.ListLaws.{good-if-no-fault, no-fault-if-good, listed-pa
 use Rattle.refusals.specs.Orders.{Fault, _gets_, firstOf, ifFine, Outcome, Fine, Refused}
 use Rattle.refusals.specs.Refusals.{_at_}
 use Rattle.refusals.proofs.OrderLaws.{NoneHolds, fine-means-none-holds, none-holds-means-fine, none-holds-join, none-holds-first, none-holds-second, refused-is-not-fine}
-use Rattle.plan_steps.specs.PlanSteps.{stepOf}
-use Rattle.plan_steps.specs.declared.SheetStep.{SheetStep}
-use Rattle.plan_sheets.specs.PlanSheets.{Plan, firstCount, stepsOf}
+use Rattle.plan_sheets.specs.PlanSheets.{Plan, firstCount, stepOf, stepsOf}
+use Rattle.plan_sheets.specs.declared.step.SheetStep.{SheetStep}
 use Rattle.plan_sheets.specs.declared.head.PlanHead.{PlanHead}
 use Rattle.plans.specs.Judgement.{lost, survives, editionOf, headFaults, mostFailed, failedFaults, wantedOf, keptOf, leastWanted, mostWanted, wantedFaults, EachFormed, stepFaults, stepsVerdict, trueReadCount, neverFilled, endsWrong, lowestWanted, endFaults, SetsWithin, judgement, originOf, bodyVerdict, planFaults, planVerdict}
 use Rattle.plans.specs.Demand2.{HeadFits, Deserves}
-use Rattle.plan_steps.proofs.ReadingLaws.{target-stepOf}
+use Rattle.plan_sheets.proofs.ReadingLaws.{target-stepOf}
 
 -- ------------------------------------------------------------------
 -- Verdicts joined

@@ -21,9 +21,8 @@ use Rattle.gf2.specs.declared.Step.{Step}
 use Rattle.gf2.proofs.PlanLaws.{run-below}
 use Rattle.gf2.proofs.StripeLaws.{accepted-restores-stripes, symbol-patternStripe, symbol-run-on-pattern}
 use Rattle.code_sheets.specs.CodeReading.{codeFaults, codeVerdict, reading}
-use Rattle.plan_steps.specs.PlanSteps.{stepOf}
-use Rattle.plan_steps.specs.declared.SheetStep.{SheetStep}
-use Rattle.plan_sheets.specs.PlanSheets.{Plan, stepsOf, headIn, planIn}
+use Rattle.plan_sheets.specs.PlanSheets.{Plan, stepOf, stepsOf, headIn, planIn}
+use Rattle.plan_sheets.specs.declared.step.SheetStep.{SheetStep}
 use Rattle.refusals.specs.Orders.{Fault, _gets_, orIf, firstOf, ifFine, Outcome, Fine, Refused, Refuses}
 use Rattle.refusals.specs.Refusals.{_at_}
 use Rattle.refusals.proofs.OrderLaws.{refused-is-not-fine, same-refusal, refused-before}

@@ -10,10 +10,9 @@ use Rattle.codes.specs.Codes.{LinearCode}
 use Rattle.gf2.specs.Plans.{target, NamesBelow, StepsBelow, reads, NoneOntoItself}
 use Rattle.gf2.specs.declared.Step.{Step}
 use Rattle.gf2.specs.declared.Step.the-variants.{Clear, Copy, Add}
-use Rattle.plan_steps.specs.PlanSteps.{firstStep, sheetSteps}
-use Rattle.plan_steps.specs.InnerPlanSteps.{stepBytes, stepsBytes}
-use Rattle.plan_steps.proofs.ReadBackLaws.{behind-first-step}
-use Rattle.plan_sheets.specs.InnerPlanSheets.{EditionFits, First, Second, Third, headFor}
+use Rattle.plan_sheets.specs.PlanSheets.{firstStep, sheetSteps}
+use Rattle.plan_sheets.specs.InnerPlanSheets.{EditionFits, First, Second, Third, headFor, stepBytes, stepsBytes}
+use Rattle.plan_sheets.proofs.ReadBackLaws.{behind-first-step}
 use Rattle.plans.specs.Demand2.{HeadFits}
 use Rattle.plans.specs.Judgement.{malformed, ontoItself, EachFormed}
 

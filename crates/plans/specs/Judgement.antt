@@ -7,9 +7,8 @@ use mathlib.Core.List.{List, [], _∷_, _++_, map, List·Memᴰ}
 use Prim.Native.Nat.{ℕ, suc, _+_, _-_, _*_, _≤_}
 use lib.Dec.{eqb, leb, ltb}
 use lib.ListN.{length, getD}
-use Rattle.plan_steps.specs.PlanSteps.{stepOf}
-use Rattle.plan_steps.specs.declared.SheetStep.{SheetStep}
-use Rattle.plan_sheets.specs.PlanSheets.{Plan}
+use Rattle.plan_sheets.specs.PlanSheets.{Plan, stepOf}
+use Rattle.plan_sheets.specs.declared.step.SheetStep.{SheetStep}
 use Rattle.plan_sheets.specs.declared.head.PlanHead.{PlanHead}
 use Rattle.codes.specs.Codes.{LinearCode}
 use Rattle.codes.specs.Layouts.{symbolsOf, firstSymbol, diskOf}

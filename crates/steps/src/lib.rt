@@ -5,7 +5,7 @@ ghost use lib.ListN.{length};
 ghost use Rattle.bits.specs.BitSets.{has};
 ghost use Rattle.bits.specs.Numerals.{setWidth, numeral, numerals};
 ghost use Rattle.gf2.specs.Plans.{target};
-ghost use Rattle.plan_steps.specs.PlanSteps.{stepsLength, sheetSteps};
+ghost use Rattle.plan_sheets.specs.PlanSheets.{stepsLength, sheetSteps};
 ghost use Rattle.plans.specs.InnerProgress.{sourceOf, valueOf, reached, Progressed};
 use bits::BitSet;
 use bits::BitSets;

@@ -15,9 +15,9 @@ use Rattle.gf2.specs.declared.Step.the-variants.{Add}
 use Rattle.gf2.specs.Stripes.{symbol, xorBytes, putSymbol, runOnStripe}
 use Rattle.passes.specs.InnerSums.{summedParts, summed, EachWithin}
 use Rattle.passes.proofs.SumLaws.{length-added}
-use Rattle.plan_steps.specs.PlanSteps.{stepOf, stepAt}
-use Rattle.plan_steps.specs.declared.SheetStep.{SheetStep}
-use Rattle.plan_steps.proofs.ReadingLaws.{stepsFrom-next, target-stepOf}
+use Rattle.plan_sheets.specs.PlanSheets.{stepOf, stepAt}
+use Rattle.plan_sheets.specs.declared.step.SheetStep.{SheetStep}
+use Rattle.plan_sheets.proofs.ReadingLaws.{stepsFrom-next, target-stepOf}
 use Rattle.stripes.specs.InnerPasses.{addsOther, addsTo, remainingSteps, TakenIn}
 use Rattle.stripes.proofs.PutLaws.{add-to-put}
 

@@ -8,8 +8,8 @@ use lib.Dec.{eqb, leb}
 use lib.ListN.{drop}
 use Rattle.gf2.specs.declared.Step.{Step}
 use Rattle.gf2.specs.declared.Step.the-variants.{Add}
-use Rattle.plan_steps.specs.PlanSteps.{stepOf, stepsLength, sheetSteps}
-use Rattle.plan_steps.specs.declared.SheetStep.{SheetStep}
+use Rattle.plan_sheets.specs.PlanSheets.{stepOf, stepsLength, sheetSteps}
+use Rattle.plan_sheets.specs.declared.step.SheetStep.{SheetStep}
 
 -- The step adds another symbol to t
 abbrev pub addsOther : ℕ → SheetStep → Bool

@@ -6,7 +6,7 @@ use borrow.Author.Needs.{needs}
 use Rattle.bits.specs.BitSets.{has, count}
 use Rattle.bits.specs.Numerals.{numeral, numerals}
 use Rattle.refusals.specs.Orders.{outcome, andThen}
-use Rattle.plan_steps.specs.PlanSteps.{sheetSteps}
+use Rattle.plan_sheets.specs.PlanSheets.{sheetSteps}
 use Rattle.plans.specs.InnerProgress.{reached}
 use Rattle.plans.specs.Judgement.{endOrder}
 use Rattle.plans.proofs.EndLaws.{lowest-from-origin, judged}

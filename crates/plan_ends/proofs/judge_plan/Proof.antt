@@ -7,7 +7,7 @@ use Rattle.bits.specs.BitSets.{has}
 use Rattle.bits.specs.Numerals.{setWidth, numeral, numerals}
 use Rattle.codes.specs.Codes.{linear}
 use Rattle.codes.proofs.LimitLaws.{layout-within}
-use Rattle.plan_steps.specs.PlanSteps.{sheetSteps}
+use Rattle.plan_sheets.specs.PlanSheets.{sheetSteps}
 use Rattle.plans.specs.Judgement.{SetsWithin, judgement}
 use Rattle.plans.proofs.EndLaws.{body-by-sets, sets-by-code}
 use Rattle.plans.proofs.JudgementLaws.{lost-below, first-disk-below, plan-sets}

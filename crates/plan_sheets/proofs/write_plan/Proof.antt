@@ -6,9 +6,8 @@ use lib.ListN.{length}
 use Rattle.bits.specs.BitSets.{has}
 use Rattle.bits.specs.Numerals.{numeral, numerals}
 use Rattle.codes.specs.Layouts.{symbolsOf}
-use Rattle.plan_steps.specs.InnerPlanSteps.{subsetPlan}
 use Rattle.plan_sheets.specs.PlanSheets.{Sections, headLength, sheetLength}
-use Rattle.plan_sheets.specs.InnerPlanSheets.{sectionsOf, headFor}
+use Rattle.plan_sheets.specs.InnerPlanSheets.{sectionsOf, headFor, subsetPlan}
 use Rattle.plan_sheets.proofs.SheetWrittenLaws.{part-stored, length-stored, sheet-stored, steps-writable, count-told, reads-told, few-reads, first-number, first-count-small, edition-small}
 use Rattle.plan_sheets.proofs.write_plan.Statement.{statement}
 use Rattle.plan_sheets.proofs.write_plan.Tie as tie

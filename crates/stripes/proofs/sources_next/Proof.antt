@@ -6,7 +6,7 @@ use native.Mathlib.Omega.{arith}
 use Rattle.passes.specs.InnerSources.{listed}
 use Rattle.passes.specs.declared.Sources.{Sources}
 use Rattle.passes.proofs.SourceLaws.{listed-with}
-use Rattle.plan_steps.specs.declared.SheetStep.{SheetStep}
+use Rattle.plan_sheets.specs.declared.step.SheetStep.{SheetStep}
 use Rattle.stripes.specs.InnerPasses.{addsOther, TakenIn}
 use Rattle.stripes.proofs.PassLaws.{taken-none, taken-next}
 use Rattle.stripes.proofs.sources_next.Statement.{statement}

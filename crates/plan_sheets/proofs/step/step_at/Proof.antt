@@ -1,11 +1,11 @@
--- `plan_steps::step_at` meets its contract: the bytes are the step's. Assumes nothing.
+-- `plan_sheets::step::step_at` meets its contract: the bytes are the step's. Assumes nothing.
 use mathlib.Core.Path.{refl}
 use Prim.Native.Nat.{_+_, _*_}
 use native.Mathlib.Omega.{arith}
-use Rattle.plan_steps.proofs.ReadingLaws.{bytes-are-step}
+use Rattle.plan_sheets.proofs.ReadingLaws.{bytes-are-step}
 use borrow.Author.Needs.{needs}
-use Rattle.plan_steps.proofs.step_at.Statement.{statement}
-use Rattle.plan_steps.proofs.step_at.Tie as tie
+use Rattle.plan_sheets.proofs.step.step_at.Statement.{statement}
+use Rattle.plan_sheets.proofs.step.step_at.Tie as tie
 
 mul-at : tie.Need-mul-at
 mul-at c = search needs

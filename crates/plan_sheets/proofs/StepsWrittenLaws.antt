@@ -20,9 +20,9 @@ use Rattle.gf2.specs.InnerSubsetPlans.{addAll, fillFrom, planOf}
 use Rattle.gf2.specs.declared.Step.{Step}
 use Rattle.gf2.specs.declared.Step.the-variants.{Clear, Copy, Add}
 use Rattle.gf2.proofs.SourceLaws.{readByAny-append, fill-reads-subset}
-use Rattle.plan_steps.specs.PlanSteps.{stepsLength}
-use Rattle.plan_steps.specs.InnerPlanSteps.{stepBytes, stepsBytes, withSteps, StepsFit, planFor, subsetPlan, sourceCount, Tells}
-use Rattle.plan_steps.proofs.ReadBackLaws.{length-stepsBytes, stepsBytes-append}
+use Rattle.plan_sheets.specs.PlanSheets.{stepsLength}
+use Rattle.plan_sheets.specs.InnerPlanSheets.{stepBytes, stepsBytes, withSteps, StepsFit, planFor, subsetPlan, sourceCount, Tells}
+use Rattle.plan_sheets.proofs.ReadBackLaws.{length-stepsBytes, stepsBytes-append}
 
 -- ------------------------------------------------------------------
 -- Steps in a buffer

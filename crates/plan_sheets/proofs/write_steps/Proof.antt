@@ -1,4 +1,4 @@
--- `plan_steps::write_steps` meets its contract. The invariant: the steps for the symbols passed are written and their sources gathered, and those for the
+-- `plan_sheets::write_steps` meets its contract. The invariant: the steps for the symbols passed are written and their sources gathered, and those for the
 -- others remain. Assumes nothing.
 use mathlib.Core.Path.{sym, ap, _∙_, subst}
 use mathlib.Core.Logic.{⊎-elim}
@@ -7,9 +7,9 @@ use native.Mathlib.Omega.{arith}
 use Rattle.bits.specs.BitSets.{has}
 use Rattle.bits.specs.Numerals.{numeral, numerals}
 use Rattle.bits.proofs.NumeralLaws.{getD-numerals}
-use Rattle.plan_steps.proofs.StepsWrittenLaws.{PlanRemaining, plan-all, plan-fits, plan-next, plan-skip, plan-written, plan-told}
-use Rattle.plan_steps.proofs.write_steps.Statement.{statement}
-use Rattle.plan_steps.proofs.write_steps.Tie as tie
+use Rattle.plan_sheets.proofs.StepsWrittenLaws.{PlanRemaining, plan-all, plan-fits, plan-next, plan-skip, plan-written, plan-told}
+use Rattle.plan_sheets.proofs.write_steps.Statement.{statement}
+use Rattle.plan_sheets.proofs.write_steps.Tie as tie
 
 abbrev Inv-loop : tie.InvT-loop
 Inv-loop symbols wanted buffer₀ subsets sources₀ number₀ target₀ buffer sources number target =

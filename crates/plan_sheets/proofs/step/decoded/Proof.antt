@@ -1,7 +1,7 @@
--- `plan_steps::decoded` meets its contract: the kind decides. Assumes nothing.
+-- `plan_sheets::step::decoded` meets its contract: the kind decides. Assumes nothing.
 use borrow.Author.Tests.{eq-eqb, ne-eqb}
-use Rattle.plan_steps.proofs.decoded.Statement.{statement}
-use Rattle.plan_steps.proofs.decoded.Tie as tie
+use Rattle.plan_sheets.proofs.step.decoded.Statement.{statement}
+use Rattle.plan_sheets.proofs.step.decoded.Tie as tie
 
 returns : tie.Need-returns
 returns c = simp (eq-eqb _ _ (c .if1 .taken))

@@ -1,9 +1,9 @@
--- `plan_steps::write_bytes` meets its contract: three stores. Assumes nothing.
+-- `plan_sheets::step::write_bytes` meets its contract: three stores. Assumes nothing.
 use native.Mathlib.Omega.{arith}
 use lib.ListN.{length-set}
-use Rattle.plan_steps.proofs.StepsWrittenLaws.{bytes-stored}
-use Rattle.plan_steps.proofs.write_bytes.Statement.{statement}
-use Rattle.plan_steps.proofs.write_bytes.Tie as tie
+use Rattle.plan_sheets.proofs.StepsWrittenLaws.{bytes-stored}
+use Rattle.plan_sheets.proofs.step.write_bytes.Statement.{statement}
+use Rattle.plan_sheets.proofs.step.write_bytes.Tie as tie
 
 mul-at : tie.Need-mul-at
 mul-at c = omega (arith, c .pre .3)

@@ -1,6 +1,6 @@
--- `plan_steps::fill_step` meets its contract, by cases on `first`. Assumes nothing.
-use Rattle.plan_steps.proofs.fill_step.Statement.{statement}
-use Rattle.plan_steps.proofs.fill_step.Tie as tie
+-- `plan_sheets::fill_step` meets its contract, by cases on `first`. Assumes nothing.
+use Rattle.plan_sheets.proofs.fill_step.Statement.{statement}
+use Rattle.plan_sheets.proofs.fill_step.Tie as tie
 
 returns : tie.Need-returns
 returns c = rw (c .if1 .taken)

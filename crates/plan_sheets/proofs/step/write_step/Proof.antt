@@ -1,10 +1,10 @@
--- `plan_steps::write_step` meets its contract, by cases on the step. Assumes nothing.
+-- `plan_sheets::step::write_step` meets its contract, by cases on the step. Assumes nothing.
 use mathlib.Core.Path.{_∙_, subst}
 use native.Mathlib.Omega.{arith}
 use Rattle.gf2.specs.Plans.{NamesBelow}
-use Rattle.plan_steps.proofs.StepsWrittenLaws.{step-stored}
-use Rattle.plan_steps.proofs.write_step.Statement.{statement}
-use Rattle.plan_steps.proofs.write_step.Tie as tie
+use Rattle.plan_sheets.proofs.StepsWrittenLaws.{step-stored}
+use Rattle.plan_sheets.proofs.step.write_step.Statement.{statement}
+use Rattle.plan_sheets.proofs.step.write_step.Tie as tie
 
 enum-known-step : tie.Need-enum-known-step
 enum-known-step c = c .match .keys1

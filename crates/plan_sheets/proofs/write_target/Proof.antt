@@ -1,12 +1,12 @@
--- `plan_steps::write_target` meets its contract. The invariant: the steps for the places passed are written, and those for the others remain. Assumes nothing.
+-- `plan_sheets::write_target` meets its contract. The invariant: the steps for the places passed are written, and those for the others remain. Assumes nothing.
 use mathlib.Core.Path.{sym, _∙_}
 use mathlib.Core.Logic.{⊎-elim}
 use Prim.Native.Nat.{_-_, _≤_}
 use native.Mathlib.Omega.{arith}
 use Rattle.bits.specs.Numerals.{numeral}
-use Rattle.plan_steps.proofs.StepsWrittenLaws.{TargetRemaining, target-all, target-step-fits, target-step, target-skip, target-clear-fits, target-clear, target-end, fill-names-below}
-use Rattle.plan_steps.proofs.write_target.Statement.{statement}
-use Rattle.plan_steps.proofs.write_target.Tie as tie
+use Rattle.plan_sheets.proofs.StepsWrittenLaws.{TargetRemaining, target-all, target-step-fits, target-step, target-skip, target-clear-fits, target-clear, target-end, fill-names-below}
+use Rattle.plan_sheets.proofs.write_target.Statement.{statement}
+use Rattle.plan_sheets.proofs.write_target.Tie as tie
 
 abbrev Inv-loop : tie.InvT-loop
 Inv-loop target subset symbols number buffer₀ first₀ next₀ source₀ buffer first next source =

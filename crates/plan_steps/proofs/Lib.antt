@@ -1,3 +1,0 @@
-pub mod ReadingLaws
-pub mod ReadBackLaws
-pub mod StepsWrittenLaws

@@ -1,2 +1,0 @@
-pub mod PlanSteps
-pub mod InnerPlanSteps
