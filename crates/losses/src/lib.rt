@@ -18,6 +18,8 @@ use bits::union;
 use codes::Layout;
 use lists::set_of;
 use sheets::byte_at;
+
+pub mod bounds; // bounds.rt: how many entries a list may have
 
 // Of an array's symbols those that survive and those that are wanted; places of wanted symbols count from `origin`.
 pub struct Loss {

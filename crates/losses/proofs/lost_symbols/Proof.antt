@@ -1,4 +1,4 @@
--- `plans::loss::lost_symbols` meets its contract. The invariant: the set has the symbols of the disks passed. Assumes nothing.
+-- `losses::lost_symbols` meets its contract. The invariant: the set has the symbols of the disks passed. Assumes nothing.
 use mathlib.Core.Path.{_≡_, sym, ap, _∙_, subst}
 use mathlib.Core.Bool.{_&&_}
 use Prim.Native.Nat.{ℕ, _-_, _^_, _≤_, _<_}
@@ -11,9 +11,9 @@ use Rattle.codes.specs.Layouts.{symbolsOf, diskOf}
 use Rattle.bits.specs.BitSets.{has}
 use Rattle.bits.specs.Numerals.{setWidth, numeral}
 use Rattle.lists.specs.Lists.{listed}
-use Rattle.plans.proofs.LossLaws.{strip-inside, none-lost, strip-joins, all-lost}
-use Rattle.plans.proofs.loss.lost_symbols.Statement.{statement}
-use Rattle.plans.proofs.loss.lost_symbols.Tie as tie
+use Rattle.losses.proofs.LossLaws.{strip-inside, none-lost, strip-joins, all-lost}
+use Rattle.losses.proofs.lost_symbols.Statement.{statement}
+use Rattle.losses.proofs.lost_symbols.Tie as tie
 
 abbrev Inv-loop : tie.InvT-loop
 Inv-loop layout disks count gone₀ i₀ gone i =

@@ -1,7 +1,7 @@
--- `plans::loss::wanted_symbols` meets its contract: a list without entries wants all. Assumes nothing.
+-- `losses::wanted_symbols` meets its contract: a list without entries wants all. Assumes nothing.
 use borrow.Author.Tests.{eq-eqb, ne-eqb}
-use Rattle.plans.proofs.loss.wanted_symbols.Statement.{statement}
-use Rattle.plans.proofs.loss.wanted_symbols.Tie as tie
+use Rattle.losses.proofs.wanted_symbols.Statement.{statement}
+use Rattle.losses.proofs.wanted_symbols.Tie as tie
 
 returns : tie.Need-returns
 returns c s = rw (eq-eqb _ 0 (c .if1 .taken))

@@ -1,11 +1,11 @@
--- `plans::loss::origin_of` meets its contract: the edition decides. Assumes nothing.
+-- `losses::origin_of` meets its contract: the edition decides. Assumes nothing.
 use mathlib.Core.Path.{sym, ap, _∙_, subst}
 use Prim.Native.Nat.{ℕ, _<_}
 use native.Mathlib.Omega.{arith}
 use borrow.Author.Tests.{eq-eqb, ne-eqb}
 use Rattle.codes.specs.Layouts.{firstSymbol}
-use Rattle.plans.proofs.loss.origin_of.Statement.{statement}
-use Rattle.plans.proofs.loss.origin_of.Tie as tie
+use Rattle.losses.proofs.origin_of.Statement.{statement}
+use Rattle.losses.proofs.origin_of.Tie as tie
 
 returns : tie.Need-returns
 returns c = simp (eq-eqb _ 3 (c .if1 .taken))

@@ -1,7 +1,7 @@
--- `plans::bounds::most_failed` meets its contract. Assumes nothing.
+-- `losses::bounds::most_failed` meets its contract. Assumes nothing.
 use borrow.Author.Tests.{eq-eqb, ne-eqb}
-use Rattle.plans.proofs.bounds.most_failed.Statement.{statement}
-use Rattle.plans.proofs.bounds.most_failed.Tie as tie
+use Rattle.losses.proofs.bounds.most_failed.Statement.{statement}
+use Rattle.losses.proofs.bounds.most_failed.Tie as tie
 
 returns : tie.Need-returns
 returns c = simp (eq-eqb _ _ (c .if1 .taken))

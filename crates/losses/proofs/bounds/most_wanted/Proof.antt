@@ -1,7 +1,7 @@
--- `plans::bounds::most_wanted` meets its contract. Assumes nothing.
+-- `losses::bounds::most_wanted` meets its contract. Assumes nothing.
 use borrow.Author.Tests.{eq-eqb, ne-eqb}
-use Rattle.plans.proofs.bounds.most_wanted.Statement.{statement}
-use Rattle.plans.proofs.bounds.most_wanted.Tie as tie
+use Rattle.losses.proofs.bounds.most_wanted.Statement.{statement}
+use Rattle.losses.proofs.bounds.most_wanted.Tie as tie
 
 returns : tie.Need-returns
 returns c = rw (eq-eqb _ 1 (c .if1 .taken))

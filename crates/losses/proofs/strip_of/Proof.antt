@@ -1,4 +1,4 @@
--- `plans::loss::strip_of` meets its contract: the strip lies within the array, and the array within a set. Assumes nothing.
+-- `losses::strip_of` meets its contract: the strip lies within the array, and the array within a set. Assumes nothing.
 use Prim.Native.Nat.{ℕ, _+_, _≤_}
 use mathlib.Core.Path.{_≡_, sym, ap, ap₂, _∙_, subst}
 use native.Mathlib.Omega.{arith}
@@ -7,9 +7,9 @@ use Rattle.codes.specs.Layouts.{firstSymbol, heightOf}
 use Rattle.codes.proofs.LayoutLaws.{strip-within}
 use Rattle.bits.specs.BitSets.{has, below}
 use Rattle.bits.specs.Numerals.{setWidth, numeral}
-use Rattle.plans.proofs.LossLaws.{strip-as-set, below-small}
-use Rattle.plans.proofs.loss.strip_of.Statement.{statement}
-use Rattle.plans.proofs.loss.strip_of.Tie as tie
+use Rattle.losses.proofs.LossLaws.{strip-as-set, below-small}
+use Rattle.losses.proofs.strip_of.Statement.{statement}
+use Rattle.losses.proofs.strip_of.Tie as tie
 
 first-symbol-requires : tie.Need-first-symbol-requires
 first-symbol-requires c κs = (omega (arith, c .pre), omega (arith, c .pre), omega (arith, c .pre))

@@ -1,4 +1,4 @@
--- `plans::loss::loss_of` meets its contract: all symbols but the lost ones survive. Assumes nothing.
+-- `losses::loss_of` meets its contract: all symbols but the lost ones survive. Assumes nothing.
 use mathlib.Core.Path.{ap, _∙_}
 use mathlib.Core.Bool.{Bool, cond}
 use Prim.Native.Nat.{ℕ}
@@ -9,9 +9,9 @@ use lib.ListN.{length}
 use Rattle.bits.specs.BitSets.{has, below}
 use Rattle.bits.specs.Numerals.{numeral}
 use Rattle.lists.specs.Lists.{listed}
-use Rattle.plans.proofs.LossLaws.{rest-as-set}
-use Rattle.plans.proofs.loss.loss_of.Statement.{statement}
-use Rattle.plans.proofs.loss.loss_of.Tie as tie
+use Rattle.losses.proofs.LossLaws.{rest-as-set}
+use Rattle.losses.proofs.loss_of.Statement.{statement}
+use Rattle.losses.proofs.loss_of.Tie as tie
 
 symbols-requires : tie.Need-symbols-requires
 symbols-requires c κs = (omega (arith, c .before .before .pre .0 .disks-to), omega (arith, c .before .before .pre .0 .height-to))
