@@ -1,11 +1,11 @@
-// Elimination by patterns over arrays of sets: the rows' pivots, the patterns that remain, and back substitution.
+// Elimination by patterns over arrays of sets: the rows' pivots and the patterns that remain.
 ghost use mathlib.Core.Path.{_≡_};
 ghost use Prim.Native.Nat.{_≤_};
 ghost use lib.Dec.{eqb};
 ghost use lib.ListN.{take};
 ghost use Rattle.bits.specs.BitSets.{overlap};
 ghost use Rattle.bits.specs.Numerals.{setWidth, numeral, numerals};
-ghost use Rattle.gf2.specs.InnerElimination.{pivotFor, reducePatterns, remaining, pivots, backSubstitute};
+ghost use Rattle.gf2.specs.InnerElimination.{pivotFor, reducePatterns, remaining, pivots};
 ghost use Rattle.elimination.specs.InnerPatterns.{unitPatterns, ZeroBehind, firstNonempty};
 use bits::BitSet;
 use bits::BitSets;
@@ -38,7 +38,7 @@ pub fn unit_patterns(width: usize) -> BitSets
 }
 
 // Whether a pattern overlaps a row oddly. Nothing is counted where they share nothing: an empty pattern or an empty row costs no overlap.
-fn is_odd(pattern: BitSet, row: BitSet) -> bool
+pub fn is_odd(pattern: BitSet, row: BitSet) -> bool
     ensures { λ r. ⌜ r ≡ eqb (overlap (numeral pattern) (numeral row)) 1 ⌝ }
 {
     if is_empty(common(pattern, row)) {
@@ -102,22 +102,4 @@ pub fn eliminate(patterns: BitSets, count: usize, rows: BitSets, symbols: usize)
         remaining: remaining,
         pivots: pivots,
     }
-}
-
-// The subset of the first `symbols` rows that the pivots take out of a row, from the last to the first.
-pub fn back_substitute(pivots: BitSets, rows: BitSets, symbols: usize, row: BitSet) -> BitSet
-    requires { ⌜ symbols ≤ setWidth ⌝ }
-    ensures { λ r. ⌜ numeral r ≡ backSubstitute (take symbols (numerals pivots)) (take symbols (numerals rows)) (numeral row) ⌝ }
-{
-    let mut subset = empty();
-    let mut left = row;
-    let mut s = symbols;
-    while 0 < s {
-        s -= 1;
-        if is_odd(pivots[s], left) {
-            left = sum(left, rows[s]);
-            subset = with(subset, s);
-        }
-    }
-    subset
 }

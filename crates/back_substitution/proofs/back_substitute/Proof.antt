@@ -1,13 +1,13 @@
--- `elimination::back_substitute` meets its contract. The invariant: back substitution has come down to row s. Assumes nothing.
+-- `back_substitution::back_substitute` meets its contract. The invariant: back substitution has come down to row s. Assumes nothing.
 use mathlib.Core.Path.{sym, _∙_}
 use Prim.Native.Nat.{_-_, _≤_}
 use native.Mathlib.Omega.{arith}
 use lib.ListN.{length}
 use Rattle.bits.specs.Numerals.{numeral, numerals}
 use Rattle.bits.proofs.NumeralLaws.{array-length, length-numerals, getD-numerals}
-use Rattle.elimination.proofs.RowLaws.{SubstitutedFrom, substituted-none, substituted-odd, substituted-even, substituted-all}
-use Rattle.elimination.proofs.back_substitute.Statement.{statement}
-use Rattle.elimination.proofs.back_substitute.Tie as tie
+use Rattle.back_substitution.proofs.SubstitutionLaws.{SubstitutedFrom, substituted-none, substituted-odd, substituted-even, substituted-all}
+use Rattle.back_substitution.proofs.back_substitute.Statement.{statement}
+use Rattle.back_substitution.proofs.back_substitute.Tie as tie
 
 abbrev Inv-loop : tie.InvT-loop
 Inv-loop symbols pivots rows subset₀ row s₀ subset left s =
