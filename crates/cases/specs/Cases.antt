@@ -9,7 +9,7 @@ use Rattle.family_codes.specs.Families.{familyCode}
 use Rattle.family_codes.specs.declared.Family.{Family}
 use Rattle.family_codes.specs.declared.Family.the-variants.{Liberation, RowDiagonal}
 use Rattle.bits.specs.BitSets.{with}
-use Rattle.lines.specs.Lines.{deskText}
+use Rattle.desk_answers.specs.DeskAnswers.{deskText}
 use Rattle.planning.specs.Demand3.{CannotBeRebuilt, IsPlan, Promised}
 use Rattle.planning.specs.Planning.{Asked, Found, APattern, wholeDisk, listedOn, listedOnSet, leastBuffer}
 use Rattle.rebuild.specs.Rebuild.{stripeAfter}

@@ -1,60 +1,52 @@
-// What the desk program prints: standard input to lines.
-ghost use mathlib.Core.Path.{_≡_};
-ghost use Prim.Native.Nat.{_≤_, _<_};
-ghost use lib.ListN.{length};
-ghost use Rattle.lines.specs.Lines.{sheetLengthIn, codeSheetIn, planSheetIn, refusalLine, answerLines, linesOf, deskText, writtenLength, writtenOver};
+// The lines that the desk prints: each behind the text so far, then all of an answer.
+ghost use Rattle.lines.specs.Lines.{codeLine, diskLine, acceptedLines, refusalLine, answerLines, linesOf};
 ghost use Rattle.refusals.specs.Refusals.{numbered};
 ghost use Rattle.refusals.specs.Orders.{Fine};
 ghost use Rattle.codes.specs.Codes.{linear};
 ghost use Rattle.plans.specs.Check.{asChecked};
-ghost use Rattle.texts.specs.InnerTexts.{textOf, HasRoom, Extended, Holds};
-use checker::Checked;
-use checker::check;
-use code_sheets::read_code;
+ghost use Rattle.texts.specs.InnerTexts.{HasRoom, Extended, Holds};
 use codes::Code;
+use plans::Checked;
 use refusals::Refusal;
-use refusals::Verdict;
-use sheets::byte_at;
-use sheets::two_bytes_at;
 use texts::Text;
 
-mod push; // push.rt: the lines, one by one
-
-use push::push_accepted;
-use push::push_code;
-use push::push_disk;
-use push::push_refusal;
-
-// The code sheet's length, low byte first.
-fn sheet_length(input: &[u8]) -> usize
-    ensures { λ r. ⌜ (r ≡ sheetLengthIn (now (input .entry))) × (r < 65536) ⌝ }
+// The line `code n r K`.
+fn push_code(text: Text, disks: usize, height: usize, data_symbols: usize) -> Text
+    requires { ⌜ HasRoom text 68 ⌝ }
+    ensures { λ r. ⌜ Extended text 68 (codeLine disks height «data_symbols») r ⌝ }
 {
-    two_bytes_at(input, 1)
+    text.push_labelled(b"code ", disks)
+        .push_labelled(b" ", height)
+        .push_labelled(b" ", data_symbols)
+        .push(10)
 }
 
-// The code sheet, or what there is of it.
-fn code_sheet(input: &[u8]) -> &[u8]
-    ensures { λ r. ⌜ now r ≡ codeSheetIn (now (input .entry)) ⌝ }
+// The line `disk d`.
+fn push_disk(text: Text, disk: usize) -> Text
+    requires { ⌜ HasRoom text 26 ⌝ }
+    ensures { λ r. ⌜ Extended text 26 (diskLine disk) r ⌝ }
 {
-    if input.len() < 3 {
-        return &input[0..0];
-    }
-    let end = 3 + sheet_length(input);
-    if input.len() < end {
-        return &input[3..];
-    }
-    &input[3..end]
+    text.push_labelled(b"disk ", disk).push(10)
 }
 
-// The plan sheet: what stands behind the code sheet, to the end.
-fn plan_sheet(input: &[u8]) -> &[u8]
-    ensures { λ r. ⌜ now r ≡ planSheetIn (now (input .entry)) ⌝ }
+// The lines `accepted` and `reads m`.
+fn push_accepted(text: Text, reads: usize) -> Text
+    requires { ⌜ HasRoom text 36 ⌝ }
+    ensures { λ r. ⌜ Extended text 36 (acceptedLines reads) r ⌝ }
 {
-    let start = 3 + sheet_length(input);
-    if input.len() < start {
-        return &input[0..0];
-    }
-    &input[start..]
+    text.push_labelled(b"accepted\nreads ", reads).push(10)
+}
+
+// The line `refused N at P`.
+fn push_refusal(text: Text, refusal: Refusal) -> Text
+    requires { ⌜ HasRoom text 53 ⌝ }
+    ensures { λ r. ⌜ Extended text 53 (refusalLine (numbered refusal .number) (numbered refusal .place)) r ⌝ }
+{
+    let number = refusal.number() as usize;
+    let place = refusal.place();
+    text.push_labelled(b"refused ", number)
+        .push_labelled(b" at ", place)
+        .push(10)
 }
 
 // The lines of what the check answers.
@@ -69,14 +61,14 @@ fn push_answer(text: Text, answer: Checked) -> Text
 }
 
 // The line of a refused code sheet, alone.
-fn refusal_text(refusal: Refusal) -> Text
+pub fn refusal_text(refusal: Refusal) -> Text
     ensures { λ r. ⌜ Holds r (refusalLine (numbered refusal .number) (numbered refusal .place)) ⌝ }
 {
     push_refusal(Text::empty(), refusal)
 }
 
 // The lines for a code sheet that was read: the code, the disk, the answer.
-fn report(code: Code, disk: usize, answer: Checked) -> Text
+pub fn report(code: Code, disk: usize, answer: Checked) -> Text
     ensures { λ r. ⌜ Holds r (linesOf Fine (linear code) disk (asChecked answer)) ⌝ }
 {
     let layout = code.layout;
@@ -87,50 +79,4 @@ fn report(code: Code, disk: usize, answer: Checked) -> Text
         code.data_symbols,
     );
     push_answer(push_disk(opening, disk), answer)
-}
-
-// What the desk prints for an input.
-fn desk_text(input: &[u8]) -> Text
-    ensures { λ r. ⌜ Holds r (deskText (now (input .entry))) ⌝ }
-{
-    let sheet = code_sheet(input);
-    let plan = plan_sheet(input);
-    let reading = read_code(sheet);
-    let verdict = reading.verdict;
-    let code = reading.code;
-    let Verdict::Refused(refusal) = verdict else {
-        let disk = byte_at(input, 0);
-        let disks = [disk as u8];
-        return report(code, disk, check(sheet, &disks, plan));
-    };
-    refusal_text(refusal)
-}
-
-// Copies a text to the front of a buffer that has room for it, and answers its length; else 0, and the buffer stays.
-fn copy_text(text: Text, out: &mut [u8]) -> usize
-    requires { ⌜ (length (text .bytes) ≡ 160) × (text .len ≤ 160) ⌝ }
-    ensures { λ r. ⌜ r ≡ writtenLength (textOf text) (now (out .entry)) ⌝ }
-    ensures { λ r. ⌜ now (out .exit) ≡ writtenOver (textOf text) (now (out .entry)) ⌝ }
-{
-    let bytes = text.bytes;
-    let len = text.len;
-    if out.len() < len {
-        return 0;
-    }
-    let mut i = 0;
-    while i < len {
-        out[i] = bytes[i];
-        i += 1;
-    }
-    len
-}
-
-// Writes what the desk prints for an input at the front of `out`, and answers the text's length; bytes behind it stay.
-// Where `out` is shorter than the text it answers 0 and writes nothing; 160 bytes are room for every text.
-pub fn write_lines(input: &[u8], out: &mut [u8]) -> usize
-    ensures answer { λ r. ⌜ r ≡ writtenLength (deskText (now (input .entry))) (now (out .entry)) ⌝ }
-    ensures out { λ r. ⌜ now (out .exit) ≡ writtenOver (deskText (now (input .entry))) (now (out .entry)) ⌝ }
-    ensures short { λ r. ⌜ length (deskText (now (input .entry))) ≤ 160 ⌝ }
-{
-    copy_text(desk_text(input), out)
 }

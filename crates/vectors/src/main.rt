@@ -246,7 +246,7 @@ fn print_on_one_line(text: &[u8]) {
 
 fn desk(record: &[u8]) {
     let mut out = [0u8; 160];
-    let length = lines::write_lines(rest_at(record, 1), &mut out);
+    let length = desk_answers::write_lines(rest_at(record, 1), &mut out);
     print_on_one_line(front_of(&out, length));
 }
 

@@ -1,5 +1,5 @@
 -- `desk::answer` stays in its buffer: the answer counts bytes at its front. Assumes nothing.
-use Rattle.lines.proofs.LineLaws.{written-within}
+use Rattle.desk_answers.proofs.LineLaws.{written-within}
 use borrow.Author.Needs.{needs}
 use Rattle.desk.proofs.answer.Statement.{statement}
 use Rattle.desk.proofs.answer.Tie as tie

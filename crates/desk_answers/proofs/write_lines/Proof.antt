@@ -1,8 +1,8 @@
 -- `write_lines` meets its contract: the text is copied. Assumes nothing.
-use Rattle.lines.proofs.LineLaws.{copied-as}
+use Rattle.desk_answers.proofs.LineLaws.{copied-as}
 use borrow.Author.Needs.{needs}
-use Rattle.lines.proofs.write_lines.Statement.{statement}
-use Rattle.lines.proofs.write_lines.Tie as tie
+use Rattle.desk_answers.proofs.write_lines.Statement.{statement}
+use Rattle.desk_answers.proofs.write_lines.Tie as tie
 
 desk-text-requires : tie.Need-desk-text-requires
 desk-text-requires c κs = search needs

@@ -1,12 +1,12 @@
 -- `desk_text` meets its contract: the refusal line alone, or the report. Assumes nothing.
-use Rattle.lines.proofs.LineLaws.{text-if-refused, text-if-fine}
+use Rattle.desk_answers.proofs.LineLaws.{text-if-refused, text-if-fine}
 use Rattle.texts.proofs.TextLaws.{holds-as}
 use mathlib.Core.Path.{ap}
 use Rattle.refusals.specs.Orders.{outcome}
 use Rattle.code_sheets.specs.CodeReading.{asRead}
 use borrow.Author.Needs.{needs}
-use Rattle.lines.proofs.desk_text.Statement.{statement}
-use Rattle.lines.proofs.desk_text.Tie as tie
+use Rattle.desk_answers.proofs.desk_text.Statement.{statement}
+use Rattle.desk_answers.proofs.desk_text.Tie as tie
 
 code-sheet-requires : tie.Need-code-sheet-requires
 code-sheet-requires c κs = search needs

@@ -1,8 +1,8 @@
 -- `sheet_length` meets its contract. Assumes nothing.
 use native.Mathlib.Omega.{arith}
-use Rattle.lines.specs.Lines.{sheetLengthIn}
-use Rattle.lines.proofs.sheet_length.Statement.{statement}
-use Rattle.lines.proofs.sheet_length.Tie as tie
+use Rattle.desk_answers.specs.DeskAnswers.{sheetLengthIn}
+use Rattle.desk_answers.proofs.sheet_length.Statement.{statement}
+use Rattle.desk_answers.proofs.sheet_length.Tie as tie
 
 two-bytes-at-requires : tie.Need-two-bytes-at-requires
 two-bytes-at-requires c κs = omega arith

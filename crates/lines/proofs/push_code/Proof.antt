@@ -1,11 +1,11 @@
--- `push::push_code` meets its contract. Assumes nothing.
+-- `push_code` meets its contract. Assumes nothing.
 use mathlib.Core.Path.{refl}
 use native.Mathlib.Omega.{arith}
 use Rattle.lines.specs.Lines.{codeLine}
 use Rattle.texts.proofs.TextLaws.{extended-twice, extended-as}
 use borrow.Author.Needs.{needs}
-use Rattle.lines.proofs.push.push_code.Statement.{statement}
-use Rattle.lines.proofs.push.push_code.Tie as tie
+use Rattle.lines.proofs.push_code.Statement.{statement}
+use Rattle.lines.proofs.push_code.Tie as tie
 
 slice-aggregate-push-labelled : tie.Need-slice-aggregate-push-labelled
 slice-aggregate-push-labelled c = search needs

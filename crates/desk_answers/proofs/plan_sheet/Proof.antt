@@ -1,9 +1,9 @@
 -- `plan_sheet` meets its contract. Assumes nothing.
 use native.Mathlib.Omega.{arith}
-use Rattle.lines.proofs.InputLaws.{plan-sheet-cut, plan-sheet-to-end}
+use Rattle.desk_answers.proofs.InputLaws.{plan-sheet-cut, plan-sheet-to-end}
 use borrow.Author.Needs.{needs}
-use Rattle.lines.proofs.plan_sheet.Statement.{statement}
-use Rattle.lines.proofs.plan_sheet.Tie as tie
+use Rattle.desk_answers.proofs.plan_sheet.Statement.{statement}
+use Rattle.desk_answers.proofs.plan_sheet.Tie as tie
 
 sheet-length-requires : tie.Need-sheet-length-requires
 sheet-length-requires c κs = search needs

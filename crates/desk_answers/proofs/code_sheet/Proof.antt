@@ -1,10 +1,10 @@
 -- `code_sheet` meets its contract. Assumes nothing.
 use mathlib.Core.Path.{sym}
 use native.Mathlib.Omega.{arith}
-use Rattle.lines.proofs.InputLaws.{code-sheet-empty-if-under-three, code-sheet-cut, code-sheet-whole}
+use Rattle.desk_answers.proofs.InputLaws.{code-sheet-empty-if-under-three, code-sheet-cut, code-sheet-whole}
 use borrow.Author.Needs.{needs}
-use Rattle.lines.proofs.code_sheet.Statement.{statement}
-use Rattle.lines.proofs.code_sheet.Tie as tie
+use Rattle.desk_answers.proofs.code_sheet.Statement.{statement}
+use Rattle.desk_answers.proofs.code_sheet.Tie as tie
 
 sub-result : tie.Need-sub-result
 sub-result c = search needs

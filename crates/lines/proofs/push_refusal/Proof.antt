@@ -1,11 +1,11 @@
--- `push::push_refusal` meets its contract: the refusal's number and place. Assumes nothing.
+-- `push_refusal` meets its contract: the refusal's number and place. Assumes nothing.
 use mathlib.Core.Path.{ap₂}
 use native.Mathlib.Omega.{arith}
 use Rattle.lines.specs.Lines.{refusalLine}
 use Rattle.texts.proofs.TextLaws.{extended-twice, extended-as}
 use borrow.Author.Needs.{needs}
-use Rattle.lines.proofs.push.push_refusal.Statement.{statement}
-use Rattle.lines.proofs.push.push_refusal.Tie as tie
+use Rattle.lines.proofs.push_refusal.Statement.{statement}
+use Rattle.lines.proofs.push_refusal.Tie as tie
 
 number-requires : tie.Need-number-requires
 number-requires c κs = search needs

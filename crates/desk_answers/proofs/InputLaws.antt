@@ -6,7 +6,7 @@ use native.Mathlib.Omega.{arith}
 use lib.ListN.{length, take, drop, length-drop, drop-of-length-le}
 use lib.Seq.{take-all, take-nil, drop-drop}
 use Rattle.sheets.proofs.PartLaws.{part-to-end, part-whole}
-use Rattle.lines.specs.Lines.{sheetLengthIn, codeSheetIn, planSheetIn}
+use Rattle.desk_answers.specs.DeskAnswers.{sheetLengthIn, codeSheetIn, planSheetIn}
 
 -- Under three bytes of input count as an empty code sheet
 pub code-sheet-empty-if-under-three : (input : List ℕ) → length input < 3 → codeSheetIn input ≡ []

@@ -11,7 +11,8 @@ use lib.Seq.{getD-take, length-take-le}
 use Rattle.bits.proofs.StoreLaws.{overwritten, overwritten-more, overwritten-front}
 use Rattle.plans.specs.Check.{checked}
 use Rattle.codes.specs.Codes.{LinearCode}
-use Rattle.lines.specs.Lines.{codeLine, refusalLine, codeSheetIn, planSheetIn, diskIn, linesOf, deskText, writtenLength, writtenOver}
+use Rattle.lines.specs.Lines.{codeLine, refusalLine, linesOf}
+use Rattle.desk_answers.specs.DeskAnswers.{codeSheetIn, planSheetIn, diskIn, deskText, writtenLength, writtenOver}
 use Rattle.texts.specs.InnerTexts.{textOf, Holds}
 use Rattle.texts.specs.declared.Text.{Text}
 use Rattle.texts.proofs.TextLaws.{length-textOf}

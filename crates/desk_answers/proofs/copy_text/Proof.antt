@@ -4,9 +4,9 @@ use mathlib.Core.Path.{_≡_, refl}
 use native.Mathlib.Omega.{arith}
 use lib.ListN.{length, take, length-set}
 use Rattle.bits.proofs.StoreLaws.{overwritten}
-use Rattle.lines.proofs.LineLaws.{no-room, copied-more, copied-whole}
-use Rattle.lines.proofs.copy_text.Statement.{statement}
-use Rattle.lines.proofs.copy_text.Tie as tie
+use Rattle.desk_answers.proofs.LineLaws.{no-room, copied-more, copied-whole}
+use Rattle.desk_answers.proofs.copy_text.Statement.{statement}
+use Rattle.desk_answers.proofs.copy_text.Tie as tie
 
 abbrev Inv-loop : tie.InvT-loop
 Inv-loop out₀ bytes len i₀ out i = (i ≤ len) × (length out ≡ length out₀) × (out ≡ overwritten out₀ (take len bytes) i)
