@@ -11,7 +11,8 @@ use Rattle.family_codes.specs.declared.Family.the-variants.{Liberation, RowDiag
 use Rattle.bits.specs.BitSets.{with}
 use Rattle.desk_answers.specs.DeskAnswers.{deskText}
 use Rattle.planning.specs.Demand3.{CannotBeRebuilt, IsPlan, Promised}
-use Rattle.planning.specs.Planning.{Asked, Found, APattern, wholeDisk, listedOn, listedOnSet, leastBuffer}
+use Rattle.plan_requests.specs.PlanRequests.{Asked, wholeDisk, listedOn, listedOnSet, leastBuffer}
+use Rattle.planning.specs.Planning.{Found, APattern}
 use Rattle.rebuild.specs.Rebuild.{stripeAfter}
 use Rattle.refusals.specs.Refusals.{_at_}
 use Rattle.refusals.specs.Orders.{Answer, Gives, Refuses}

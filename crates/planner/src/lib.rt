@@ -2,13 +2,14 @@
 ghost use mathlib.Core.Path.{_≡_};
 ghost use lib.ListN.{length};
 ghost use Rattle.refusals.specs.Orders.{outcomeOf};
-ghost use Rattle.planning.specs.Planning.{wholeDisk, listedOn, listedOnSet, planningVerdict, asPlanned, BufferLeft};
+ghost use Rattle.plan_requests.specs.PlanRequests.{wholeDisk, listedOn, listedOnSet, planningVerdict};
+ghost use Rattle.planning.specs.Planning.{asPlanned, BufferLeft};
 ghost use Rattle.planning.specs.Demand3.{Demand3, PlansWhereAnyCould, RulesSayDemand2, Promised};
 ghost use Rattle.plan_sheets.specs.InnerPlanSheets.{EditionFits};
 use code_sheets::read_code;
 use lists::disk_byte;
+use plan_requests::plan_test;
 pub use planning::Planned;
-use planning::plan_test;
 use planning::work_out;
 use refusals::Verdict;
 

@@ -28,7 +28,8 @@ use Rattle.refusals.specs.Orders.{Gives}
 use Rattle.sheets.specs.Buffers.{atFront}
 use Rattle.solve.specs.InnerSolving.{oddPattern, wantedSubsets}
 use Rattle.solve.proofs.RowLaws.{getD-subsets, subsets-below}
-use Rattle.planning.specs.Planning.{Asked, leastBuffer, APlan, APattern}
+use Rattle.plan_requests.specs.PlanRequests.{Asked, leastBuffer}
+use Rattle.planning.specs.Planning.{APlan, APattern}
 use Rattle.planning.specs.Demand3.{askedSymbols, CannotBeRebuilt}
 use Rattle.planning.specs.InnerWork.{Workable, RightSteps, sheetOf, Worked}
 use Rattle.planning.proofs.StripLaws.{lost-at-most, lost-of-one}

@@ -21,7 +21,7 @@ use Rattle.plans.proofs.PatternLaws.{no-plan-if-pattern-odd}
 use Rattle.solve.proofs.OddPatternLaws.{shows-if-found}
 use Rattle.planning.specs.Demand3.{SomePlanAccepted}
 use Rattle.planning.specs.InnerWork.{Workable}
-use Rattle.planning.specs.Planning.{wholeDisk, listedOnSet}
+use Rattle.plan_requests.specs.PlanRequests.{wholeDisk, listedOnSet}
 use Rattle.planning.proofs.WorkLaws.{patternFound, targets, target-wanted, steps-right}
 use Rattle.planning.proofs.CallLaws.{some-plan}
 use Rattle.recovery.specs.Recovery.{wholePair, EachPairHasAPlan, EachDiskHasAPlan}

@@ -7,7 +7,7 @@ use Rattle.codes.specs.Codes.{LinearCode}
 use Rattle.family_codes.specs.Families.{listed, familyCode}
 use Rattle.family_codes.specs.declared.Family.{Family}
 use Rattle.planning.specs.Demand3.{SomePlanAccepted}
-use Rattle.planning.specs.Planning.{Asked, wholeDisk, listedOnSet}
+use Rattle.plan_requests.specs.PlanRequests.{Asked, wholeDisk, listedOnSet}
 
 -- Two disks, whole
 abbrev pub wholePair : ℕ → ℕ → Asked

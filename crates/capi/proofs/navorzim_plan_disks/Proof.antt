@@ -2,7 +2,7 @@
 use mathlib.Core.Path.{refl}
 use native.Mathlib.Omega.{arith}
 use Rattle.plan_sheets.specs.InnerPlanSheets.{Third}
-use Rattle.planning.specs.Planning.{listedOnSet}
+use Rattle.plan_requests.specs.PlanRequests.{listedOnSet}
 use Rattle.answers.proofs.PlanLaws.{planning-out, pattern-fits}
 use borrow.Author.Needs.{needs}
 use Rattle.capi.proofs.navorzim_plan_disks.Statement.{statement}

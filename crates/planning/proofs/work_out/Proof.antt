@@ -7,7 +7,7 @@ use borrow.Author.Tests.{not-true, not-false}
 use Rattle.bits.specs.Numerals.{setWidth, numeral, numerals}
 use Rattle.codes.specs.Codes.{LinearCode, linear}
 use Rattle.codes.proofs.LimitLaws.{layout-within}
-use Rattle.planning.specs.Planning.{Asked}
+use Rattle.plan_requests.specs.PlanRequests.{Asked}
 use Rattle.planning.proofs.ResultLaws.{EliminatedFor, listed-small, disks-below, left-zero-behind, worked-pattern, plan-fits, worked-plan}
 use Rattle.planning.proofs.work_out.Statement.{statement}
 use Rattle.planning.proofs.work_out.Tie as tie
