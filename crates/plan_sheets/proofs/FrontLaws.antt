@@ -8,7 +8,7 @@ use lib.Dec.{eqb}
 use lib.ListN.{getD, take, drop}
 use lib.Seq.{take-take, getD-take}
 use Rattle.sheets.proofs.PartLaws.{drop-take}
-use Rattle.plan_sheets.specs.PlanSheets.{PlanHead, ListPlace, Sections, readsAt, headIn, sectionsFor, wantedCountAt, sectionsIn, listAt, stepsAt, stepCountAt, stepCount}
+use Rattle.plan_sheets.specs.PlanSheets.{ListPlace, Sections, readsAt, headIn, wantedCountAt, sectionsIn, listAt, stepsAt, stepCountAt, stepCount}
 use Rattle.plan_sheets.specs.InnerPlanSheets.{SmallPlace, SmallSections}
 use Rattle.plan_sheets.proofs.ReadingLaws.{sections-small}
 

@@ -9,10 +9,10 @@ use lib.ListN.{length, getD, take, drop, length-append}
 use lib.Seq.{take-at, drop-at, getD-at, append-snoc}
 use Rattle.gf2.specs.declared.Step.{Step}
 use Rattle.gf2.specs.declared.Step.the-variants.{Clear, Copy, Add}
-use Rattle.sheets.specs.Bytes.{twoBytesAt}
+use Rattle.sheets.specs.Bytes.{counted}
 use Rattle.plan_sheets.specs.PlanSheets.{PlanHead, ListPlace, Sections, SheetStep, Plan, stepOf, stepsOf, headIn, listFrom, sectionsFor, wantedCountAt, sectionsIn, listAt, stepsAt, headLength, stepCountAt, stepCount, stepsLength, sheetLength, firstStep, sheetSteps, planIn}
 use Rattle.plan_sheets.proofs.ReadingLaws.{one-failed}
-use Rattle.plan_sheets.specs.InnerPlanSheets.{firstNumbers, counted, diskBytes, wantedBytes, sectionsOf, EditionFits, First, Second, Third, planHead, stepBytes, stepsBytes, planSheet}
+use Rattle.plan_sheets.specs.InnerPlanSheets.{firstNumbers, diskBytes, wantedBytes, sectionsOf, EditionFits, First, Second, Third, planHead, stepBytes, stepsBytes, planSheet}
 
 -- ------------------------------------------------------------------
 -- The steps

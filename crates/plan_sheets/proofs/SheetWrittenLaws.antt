@@ -1,28 +1,27 @@
 -- Laws of the head as it is written, and of the sheet that the steps behind it make with it. Assumes nothing.
-use mathlib.Core.Path.{_≡_, refl, sym, ap, ap₂, _∙_}
+use mathlib.Core.Path.{_≡_, sym, ap, ap₂, _∙_}
 use mathlib.Core.Bool.{Bool, true, false, cond}
 use mathlib.Core.List.{List, [], _∷_, _++_, append-assoc, append-nil}
-use Prim.Native.Nat.{ℕ, suc, _+_, _-_, _/_, _%_, _≤_, _<_}
+use Prim.Native.Nat.{ℕ, _+_, _-_, _/_, _%_, _≤_, _<_}
 use native.Mathlib.Nat.{add-zero}
-use native.Mathlib.Numerals.{add-one}
 use borrow.Author.Tests.{ne-eqb}
 use native.Mathlib.Omega.{arith}
 use lib.Dec.{eqb}
-use lib.ListN.{length, getD, set, take, drop, length-set, length-append, length-drop, take-append-drop}
-use lib.Seq.{sets, sets-eq, paste, length-paste, drop-at, take-length, drop-length, take-suc-set, drop-set-lt, drop-drop, length-take-le}
+use lib.ListN.{length, getD, set, take, drop, length-drop, take-append-drop}
+use lib.Seq.{sets, sets-eq, drop-at, drop-length, take-suc-set, drop-set-lt, drop-drop, length-take-le}
 use borrow.Rule.Slice.PartMut.{putMid, post-is}
 use Rattle.bits.specs.BitSets.{count}
 use Rattle.bits.specs.Numerals.{setWidth}
 use Rattle.bits.proofs.BitSetLaws.{count-le}
-use Rattle.bits.proofs.StoreLaws.{stored-more}
 use Rattle.codes.specs.Layouts.{symbolsOf}
 use Rattle.codes.specs.declared.Layout.{Layout}
 use Rattle.gf2.specs.declared.Step.{Step}
 use Rattle.sheets.specs.Buffers.{atFront}
-use Rattle.sheets.proofs.BufferLaws.{length-atFront, front-grows}
+use Rattle.sheets.specs.Bytes.{counted}
+use Rattle.sheets.proofs.BufferLaws.{front-grows}
 use Rattle.sheets.proofs.PartLaws.{part-to-end}
 use Rattle.plan_sheets.specs.PlanSheets.{PlanHead, firstCount, wantedCountAt, stepsAt, headLength, stepsLength, sheetLength}
-use Rattle.plan_sheets.specs.InnerPlanSheets.{firstNumbers, counted, diskBytes, wantedBytes, sectionsOf, EditionFits, First, Second, Third, planHead, headFor, stepsBytes, planSheet, withSteps, subsetPlan, sourceCount, StepsWritable, Tells, PlanFits}
+use Rattle.plan_sheets.specs.InnerPlanSheets.{firstNumbers, diskBytes, wantedBytes, sectionsOf, EditionFits, First, Second, Third, planHead, headFor, stepsBytes, planSheet, withSteps, subsetPlan, sourceCount, StepsWritable, Tells, PlanFits}
 use Rattle.plan_sheets.proofs.ReadBackLaws.{length-upToDisks, length-upToLists, length-planHead, length-planSheet}
 use Rattle.plan_sheets.proofs.StepsWrittenLaws.{count-is-sourceCount}
 
@@ -32,33 +31,6 @@ use Rattle.plan_sheets.proofs.StepsWrittenLaws.{count-is-sourceCount}
 -- Five stores are the first numbers
 pub numbers-stored : (head : PlanHead) (buffer : List ℕ) → 5 ≤ length buffer → sets buffer 0 (firstNumbers head) ≡ atFront (firstNumbers head) buffer
 numbers-stored head buffer room = sets-eq (firstNumbers head) buffer 0 room
-
--- A buffer with the count of a list at a place and its first entries behind it
-abbrev pub withEntries : List ℕ → ℕ → List ℕ → ℕ → List ℕ
-withEntries list at buffer stored = paste (set buffer at (length list)) (at + 1) list stored
-
-module _ (list : List ℕ) (at : ℕ) (buffer : List ℕ) (room : at + 1 + length list ≤ length buffer) where
-  -- It keeps its length
-  pub length-withEntries : {written : List ℕ} {stored : ℕ} → stored ≤ length list → written ≡ withEntries list at buffer stored → length written ≡ length buffer
-  length-withEntries {stored = stored} h e =
-      let first = length-set buffer at (length list) in
-      ap length e ∙ length-paste (set buffer at (length list)) (at + 1) list stored (omega (arith, first)) h ∙ first
-
-  -- One entry more is stored
-  pub withEntries-next : {written : List ℕ} {i : ℕ} → i < length list → written ≡ withEntries list at buffer i
-      → set written (at + 1 + i) (getD list i 0) ≡ withEntries list at buffer (i + 1)
-  withEntries-next {written} {i} h e =
-      stored-more (set buffer at (length list)) list (at + 1) (omega (arith, length-set buffer at (length list))) written i (getD list i 0) h e refl
-
-  -- All are: the count and the list stand there
-  pub list-stored : {written : List ℕ} {i : ℕ} → written ≡ withEntries list at buffer i → i ≡ length list
-      → written ≡ take at buffer ++ counted list ++ drop (at + 1 + length list) buffer
-  list-stored e all =
-      e
-      ∙ ap (withEntries list at buffer) all
-      ∙ ap₂ (λ (a b : List ℕ). a ++ b ++ drop (at + 1 + length list) (set buffer at (length list)))
-      (ap (λ (n : ℕ). take n (set buffer at (length list))) (add-one at) ∙ take-suc-set buffer at (length list) (omega arith)) (take-length list)
-      ∙ ap₂ (λ (a b : List ℕ). a ++ b) (append-assoc (take at buffer) (length list ∷ []) list) (drop-set-lt (at + 1 + length list) buffer at (length list) (omega arith))
 
 module _ (edition reads : ℕ) (failed buffer : List ℕ) where
   -- Edition 3 has room for its list of disks
@@ -119,9 +91,10 @@ pub head-stored : (head : PlanHead) (failed wanted : List ℕ) (steps : ℕ) (le
     → listed ≡ wantedCountAt (head .edition) (length failed)
     → third ≡ take listed second ++ wantedBytes (head .edition) wanted ++ drop (listed + length (wantedBytes (head .edition) wanted)) second
     → at ≡ stepsAt (sectionsOf (head .edition) failed wanted)
-    → set (set third at (steps % 256)) (at + 1) (steps / 256) ≡ atFront (planHead head failed wanted steps) lent
+    → {written : List ℕ} → written ≡ take at third ++ (steps % 256 ∷ steps / 256 ∷ []) ++ drop (at + 2) third
+    → written ≡ atFront (planHead head failed wanted steps) lent
 unfolding planHead
-head-stored head failed wanted steps lent fits room {first} {second} {third} {listed} {at} e f listed-is g place =
+head-stored head failed wanted steps lent fits room {first} {second} {third} {listed} {at} e f listed-is g place h =
     let disks = diskBytes (head .edition) (head .reads) failed in
     let symbols = wantedBytes (head .edition) wanted in
     let last = steps % 256 ∷ steps / 256 ∷ [] in
@@ -130,9 +103,8 @@ head-stored head failed wanted steps lent fits room {first} {second} {third} {li
     let grown-more : third ≡ atFront (firstNumbers head ++ disks ++ symbols) lent =
     front-grows (firstNumbers head ++ disks) symbols lent grown (g ∙ ap (λ (n : ℕ). take n second ++ symbols ++ drop (n + length symbols) second) behind) in
     let long : at ≡ length (firstNumbers head ++ disks ++ symbols) = place ∙ sym (length-upToLists head failed wanted fits) in
-    let whole = ap {B = ℕ} length grown-more ∙ length-atFront (firstNumbers head ++ disks ++ symbols) lent (omega (arith, long, place)) in
-    ap₂ (λ (m n : ℕ). set (set third m (steps % 256)) n (steps / 256)) long (add-one at ∙ ap suc long)
-    ∙ front-grows (firstNumbers head ++ disks ++ symbols) last lent grown-more (sets-eq last third (length (firstNumbers head ++ disks ++ symbols)) (omega (arith, whole, long, place)))
+    front-grows (firstNumbers head ++ disks ++ symbols) last lent grown-more
+    (h ∙ ap (λ (n : ℕ). take n third ++ last ++ drop (n + 2) third) long)
 
 -- ------------------------------------------------------------------
 -- The sheet

@@ -15,6 +15,7 @@ use Rattle.gf2.specs.InnerSubsetPlans.{planOf}
 use Rattle.gf2.specs.Plans.{readByAny}
 use Rattle.gf2.specs.declared.Step.{Step}
 use Rattle.gf2.specs.declared.Step.the-variants.{Clear, Copy, Add}
+use Rattle.sheets.specs.Bytes.{counted}
 use Rattle.plan_sheets.specs.PlanSheets.{PlanHead, ListPlace, Sections, firstCount, sectionsFor, headLength, stepsLength, sheetLength}
 
 -- ------------------------------------------------------------------
@@ -23,10 +24,6 @@ use Rattle.plan_sheets.specs.PlanSheets.{PlanHead, ListPlace, Sections, 
 -- The first numbers: 6 or 5, edition, n, r, K
 abbrev pub firstNumbers : PlanHead → List ℕ
 firstNumbers head = head .count ∷ head .edition ∷ head .disks ∷ head .height ∷ head .data_symbols ∷ []
-
--- A list: one byte count and that many entries
-abbrev pub counted : List ℕ → List ℕ
-counted list = length list ∷ list
 
 -- The failed disk and the read count; in edition 3 the read count and the list of disks
 abbrev pub diskBytes : ℕ → ℕ → List ℕ → List ℕ

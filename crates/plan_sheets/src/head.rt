@@ -5,9 +5,11 @@ ghost use Prim.Native.Nat.{_+_, _≤_, _<_};
 ghost use lib.ListN.{length, take, drop};
 ghost use Rattle.sheets.specs.Buffers.{atFront};
 ghost use Rattle.plan_sheets.specs.PlanSheets.{readsAt, headIn, sectionsFor, wantedCountAt, sectionsIn, stepsAt, headLength, sheetLength, stepCountAt, listAt};
-ghost use Rattle.plan_sheets.specs.InnerPlanSheets.{firstNumbers, counted, diskBytes, wantedBytes, sectionsOf, SmallPlace, SmallSections, EditionFits, planHead, HeadOfBytes, HeadWritable};
+ghost use Rattle.plan_sheets.specs.InnerPlanSheets.{firstNumbers, diskBytes, wantedBytes, SmallPlace, SmallSections, planHead, HeadOfBytes, HeadWritable};
 use sheets::byte_at;
 use sheets::two_bytes_at;
+use sheets::write_list;
+use sheets::write_two_bytes;
 
 // What a plan sheet says before its lists; `count` is its first byte.
 pub struct PlanHead {
@@ -174,20 +176,6 @@ fn write_numbers(head: PlanHead, buffer: &mut [u8])
     buffer[4] = head.data_symbols as u8;
 }
 
-// A list from a place on: one byte count and that many entries.
-fn write_list(list: &[u8], at: usize, buffer: &mut [u8])
-    requires { ⌜ (length (now list) < 256) × (at < 519) × (at + 1 + length (now list) ≤ length (now buffer)) ⌝ }
-    ensures { λ _. ⌜ now (buffer .exit) ≡ take at (now (buffer .entry)) ++ counted (now (list .entry)) ++ drop (at + 1 + length (now (list .entry))) (now (buffer .entry)) ⌝ }
-{
-    let count = list.len();
-    buffer[at] = count as u8;
-    let mut i = 0;
-    while i < count {
-        buffer[at + 1 + i] = list[i];
-        i += 1;
-    }
-}
-
 // The failed disk and the read count behind the first numbers; in edition 3 the read count and the list of disks.
 fn write_disks(edition: usize, reads: usize, failed: &[u8], buffer: &mut [u8])
     requires { ⌜ (reads < 256) × (length (now failed) < 256) × (5 + length (diskBytes edition reads (now failed)) ≤ length (now buffer)) ⌝ }
@@ -225,6 +213,5 @@ pub fn write_head(head: PlanHead, failed: &[u8], wanted: &[u8], steps: usize, bu
     write_numbers(head, buffer);
     write_disks(edition, reads, failed, buffer);
     write_wanted(edition, wanted, listed, buffer);
-    buffer[at] = (steps % 256) as u8;
-    buffer[at + 1] = (steps / 256) as u8;
+    write_two_bytes(steps, at, buffer);
 }

@@ -1,5 +1,5 @@
 -- `plan_sheets::head::write_disks` meets its contract: a store and a list in edition 3, two stores in editions 1 and 2. Assumes nothing.
-use mathlib.Core.Path.{_≡_, ap, _∙_}
+use mathlib.Core.Path.{_∙_}
 use native.Mathlib.Omega.{arith}
 use lib.ListN.{length-set}
 use borrow.Author.Needs.{needs}

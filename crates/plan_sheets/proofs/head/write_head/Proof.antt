@@ -1,8 +1,8 @@
--- `plan_sheets::head::write_head` meets its contract: the numbers, the disks, the wanted symbols, and two stores behind them. Assumes nothing.
+-- `plan_sheets::head::write_head` meets its contract: the numbers, the disks, the wanted symbols, and the step count behind them. Assumes nothing.
 use mathlib.Core.Path.{_≡_, ap, _∙_}
-use Prim.Native.Nat.{_+_, _≤_}
 use native.Mathlib.Omega.{arith}
-use lib.ListN.{length, length-set}
+use borrow.Author.Needs.{needs}
+use lib.ListN.{length}
 use Rattle.plan_sheets.specs.PlanSheets.{stepsAt}
 use Rattle.plan_sheets.specs.InnerPlanSheets.{sectionsOf}
 use Rattle.plan_sheets.proofs.ReadingLaws.{head-from}
@@ -48,39 +48,24 @@ write-wanted-requires c κs =
     let behind = count-behind-lists (c .before .before .before .before .before .before .before .before .before) in
     (start .pre .wanted-to, omega (arith, listed, ends, disks, small, behind, c .before .before .before .before .before .before .before .before .before .steps-at .ensures), omega (arith, start .pre .room, listed, ends, disks, c .before .before .before .write-disks .kept .1 .1 .1 .0, c .before .before .before .before .before .before .before .write-numbers .kept .1 .0))
 
--- The step count lies in the buffer, which keeps its length
-count-in-buffer : (c : tie.After-slice-known4)
-    → let start = c .before .before .before .before .before .before .before .before .before .before .before .before .before .before .before .before .before .before in let written = c .before .before .write-wanted .last .1 .1 .1 .0 in
-    (c .before .before .before .before .before .before .before .before .before .before .before .before .steps-at .result + 2 ≤ length written) × (length written ≡ length (start .args .buffer .now))
-count-in-buffer c =
-    let start = c .before .before .before .before .before .before .before .before .before .before .before .before .before .before .before .before .before .before in
-    let long = c .before .before .write-wanted .kept .1 .1 .1 .0 ∙ c .before .before .before .before .before .before .write-disks .kept .1 .1 .1 .0 ∙ c .before .before .before .before .before .before .before .before .before .before .write-numbers .kept .1 .0 in
-    (omega (arith, count-behind-lists (c .before .before .before .before .before .before .before .before .before .before .before .before), start .pre .room, long), long)
-
-cast-buffer : tie.Need-cast-buffer
-cast-buffer c = omega arith
-
-slice-write-buffer : tie.Need-slice-write-buffer
-slice-write-buffer c = omega (arith, count-in-buffer c .0)
-
-cast-buffer-2 : tie.Need-cast-buffer-2
-cast-buffer-2 c = omega (arith, c .before .before .before .before .before .before .before .before .before .before .before .before .before .before .before .before .before .before .pre .steps-to)
-
-add-buffer : tie.Need-add-buffer
-add-buffer c = omega (arith, c .before .before .before .before .before .before .before .before .before .before .before .before .steps-at .ensures, c .before .before .before .before .before .before .before .before .before .before .before .before .before .sections-for .ensures .1 .wanted-small)
-
-slice-write-buffer-2 : tie.Need-slice-write-buffer-2
-slice-write-buffer-2 c = simp length-set (omega (arith, count-in-buffer c .0))
+write-two-bytes-requires : tie.Need-write-two-bytes-requires
+write-two-bytes-requires c κs =
+    let start = c .before .before .before .before .before .before .before .before .before .before .before .before .before .before .before .before .before .before .before in
+    let small = c .before .before .before .before .before .before .before .before .before .before .before .before .before .before .sections-for .ensures .1 .wanted-small in
+    let at = c .before .before .before .before .before .before .before .before .before .before .before .before .before .steps-at .ensures in
+    let long = c .before .before .before .write-wanted .kept .1 .1 .1 .0 ∙ c .before .before .before .before .before .before .before .write-disks .kept .1 .1 .1 .0 ∙ c .before .before .before .before .before .before .before .before .before .before .before .write-numbers .kept .1 .0 in
+    (omega (arith, start .pre .steps-to), omega (arith, at, small), omega (arith, count-behind-lists (c .before .before .before .before .before .before .before .before .before .before .before .before .before), start .pre .room, long))
 
 same-length : tie.Need-same-length
-same-length c = simp length-set (count-in-buffer c .1)
+same-length c = search needs
 
 returns : tie.Need-returns
 returns c =
-    let start = c .before .before .before .before .before .before .before .before .before .before .before .before .before .before .before .before .before .before in
+    let start = c .before .before .before .before .before .before .before .before .before .before .before .before .before .before .before .before .before .before .before .before .before .before in
     let args = start .args in
     head-stored (args .head) (args .failed .now) (args .wanted .now) (args .steps) (args .buffer .now) (start .pre .edition-fits) (start .pre .room)
-    (c .before .before .before .before .before .before .before .before .before .before .write-numbers .ensures) (c .before .before .before .before .before .before .write-disks .ensures) (c .before .before .before .before .before .before .before .before .before .before .before .before .before .before .wanted-count-at .ensures) (c .before .before .write-wanted .ensures) (count-behind-lists (c .before .before .before .before .before .before .before .before .before .before .before .before))
+    (c .before .before .before .before .before .before .before .before .before .before .before .before .before .before .write-numbers .ensures) (c .before .before .before .before .before .before .before .before .before .before .write-disks .ensures) (c .before .before .before .before .before .before .before .before .before .before .before .before .before .before .before .before .before .before .wanted-count-at .ensures) (c .before .before .before .before .before .before .write-wanted .ensures)
+    (count-behind-lists (c .before .before .before .before .before .before .before .before .before .before .before .before .before .before .before .before)) (c .before .before .write-two-bytes .ensures)
 
 pub write-head-spec : {M : Type 1} → statement M
 write-head-spec =
@@ -92,10 +77,6 @@ write-head-spec =
     write-numbers-requires
     write-disks-requires
     write-wanted-requires
-    cast-buffer
-    slice-write-buffer
-    cast-buffer-2
-    add-buffer
-    slice-write-buffer-2
+    write-two-bytes-requires
     same-length
     returns)

@@ -14,7 +14,7 @@ write-list-requires : tie.Need-write-list-requires
 write-list-requires c κs =
     let start = c .before .before .before .before in
     let room = room-wanted (start .args .edition) (start .args .wanted .now) (c .before .if1 .left) in
-    (start .pre .0, start .pre .1, omega (arith, start .pre .2, room))
+    (start .pre .0, omega (arith, start .pre .1), omega (arith, start .pre .2, room))
 
 same-length : tie.Need-same-length
 same-length c = search needs

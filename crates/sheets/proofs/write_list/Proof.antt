@@ -1,12 +1,12 @@
--- `plan_sheets::head::write_list` meets its contract. The invariant: the count is stored and the entries passed are copied behind it. Assumes nothing.
+-- `sheets::write_list` meets its contract. The invariant: the count is stored and the entries passed are copied behind it. Assumes nothing.
 use mathlib.Core.Path.{_≡_}
 use Prim.Native.Nat.{_+_, _-_, _≤_}
 use native.Mathlib.Omega.{arith}
 use lib.ListN.{length, set}
 use lib.Seq.{paste, paste-zero}
-use Rattle.plan_sheets.proofs.SheetWrittenLaws.{length-withEntries, withEntries-next, list-stored}
-use Rattle.plan_sheets.proofs.head.write_list.Statement.{statement}
-use Rattle.plan_sheets.proofs.head.write_list.Tie as tie
+use Rattle.sheets.proofs.ListLaws.{length-withEntries, withEntries-next, list-stored}
+use Rattle.sheets.proofs.write_list.Statement.{statement}
+use Rattle.sheets.proofs.write_list.Tie as tie
 
 abbrev Inv-loop : tie.InvT-loop
 Inv-loop list at buffer₀ count i₀ buffer i = (i ≤ count) × (buffer ≡ paste buffer₀ (at + 1) list i)
