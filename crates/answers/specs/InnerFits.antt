@@ -1,5 +1,5 @@
 -- What goes out to C as a word of 64 bits.
-use Prim.Native.Nat.{ℕ, _^_, _<_}
+use Prim.Native.Nat.{_^_, _<_}
 use Rattle.planning.specs.Planning.{Found, APlan, APattern}
 use Rattle.refusals.specs.Orders.{Answer, Gives, Refuses}
 

@@ -1,21 +1,12 @@
 -- Laws of the rows taken one after the other, from the first row on. Assumes nothing.
 use mathlib.Core.Path.{_≡_, refl, sym, ap, ap₂, _∙_}
-use mathlib.Core.Bool.{true, false}
 use mathlib.Core.List.{List, [], _∷_, _++_, append-nil}
-use Prim.Native.Nat.{ℕ, suc, _+_, _*_, _^_, _≤_, _<_}
-use native.Mathlib.Nat.{pow-succ', mul-one, zero-mul}
+use Prim.Native.Nat.{ℕ, suc, _+_, _≤_, _<_}
 use native.Mathlib.Numerals.{add-one}
 use native.Mathlib.Omega.{arith}
-use borrow.Author.Tests.{eqb-true}
-use lib.Bits.{bitXor, xor-zero-r}
-use lib.Dec.{eqb}
 use lib.ListN.{length, getD, set, take, drop, drop-of-length-le}
 use lib.Seq.{drop-cons, append-snoc, take-suc-set, getD-take, length-take-le}
-use Rattle.bits.specs.BitSets.{with, overlap, scale}
-use Rattle.gf2.specs.InnerElimination.{pivotFor, reduceRow, reducePatterns, remaining, pivots, backSubstitute, residue}
-use Rattle.gf2.proofs.EliminationLaws.{residue-step, residue-of-no-rows}
-use Rattle.bits.proofs.OverlapLaws.{even-if-not-odd}
-use Rattle.bits.proofs.SetLaws.{with-lowest}
+use Rattle.gf2.specs.InnerElimination.{pivotFor, reducePatterns, remaining, pivots}
 
 -- Of the first `symbols` rows those from row s on
 abbrev pub rowsFrom : ℕ → ℕ → List ℕ → List ℕ

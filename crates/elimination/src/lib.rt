@@ -5,7 +5,7 @@ ghost use lib.Dec.{eqb};
 ghost use lib.ListN.{take};
 ghost use Rattle.bits.specs.BitSets.{overlap};
 ghost use Rattle.bits.specs.Numerals.{setWidth, numeral, numerals};
-ghost use Rattle.gf2.specs.InnerElimination.{pivotFor, reducePatterns, remaining, pivots};
+ghost use Rattle.gf2.specs.InnerElimination.{pivotFor, remaining, pivots};
 ghost use Rattle.elimination.specs.InnerPatterns.{unitPatterns, ZeroBehind, firstNonempty};
 use bits::BitSet;
 use bits::BitSets;

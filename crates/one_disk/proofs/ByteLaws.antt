@@ -3,9 +3,8 @@ use mathlib.Core.Path.{_≡_, sym, ap, _∙_, subst}
 use mathlib.Core.Bool.{Bool, cond}
 use mathlib.Core.List.{List, [], _∷_}
 use mathlib.Core.Logic.{_↔_}
-use Prim.Native.Nat.{ℕ, _≤_, _<_}
+use Prim.Native.Nat.{ℕ}
 use native.Mathlib.Omega.{arith}
-use native.Mathlib.Decide.{decLt}
 use lib.ListN.{length}
 use borrow.Author.Tests.{lt-ltb}
 use Rattle.codes.specs.Codes.{WithinLimits}
@@ -14,7 +13,7 @@ use Rattle.codes.specs.Codes.{symbols}
 use Rattle.codes.specs.Lengths.{stripeFaults}
 use Rattle.lists.specs.Lists.{diskByte}
 use Rattle.plan_sheets.specs.PlanSheets.{headIn}
-use Rattle.plans.specs.Check.{checkVerdict, checked}
+use Rattle.plans.specs.Check.{checked}
 use Rattle.plans.specs.Demand2.{DeservesAcceptance}
 use Rattle.plans.proofs.CheckLaws.{checked-by-byte, accepted-exactly}
 use Rattle.rebuild.specs.Rebuild.{rebuildVerdict, rebuilt, stripeAfter, Restored}

@@ -8,7 +8,7 @@ use native.Mathlib.Omega.{arith}
 use lib.Dec.{eqb, ltb}
 use lib.ListN.{length, getD, replicate, getD-replicate}
 use lib.Seq.{getD-take}
-use borrow.Author.Tests.{lt-ltb, ltb-true, ltb-false, eq-eqb, eqb-true, not-true, not-false}
+use borrow.Author.Tests.{lt-ltb, ltb-true, ltb-false, eq-eqb, eqb-true, not-false}
 use Rattle.bits.specs.BitSets.{overlap}
 use Rattle.bits.specs.Numerals.{setWidth, firstDifference}
 use Rattle.bits.proofs.Booleans.{and-left, and-right, and-true-if-both}
@@ -16,7 +16,7 @@ use Rattle.bits.proofs.DifferenceLaws.{alike-below-difference, difference-below
 use Rattle.bits.proofs.SearchLaws.{firstFrom-holds, none-before-firstFrom}
 use Rattle.codes.specs.Codes.{LinearCode, symbols, matrix, WithinLimits}
 use Rattle.gf2.specs.Plans.{run, PlacesBelow, extend, filledAfter, UsesOnlyKnown, Accepted}
-use Rattle.gf2.specs.Stripes.{symbol, Valid, patternStripe, runOnStripe}
+use Rattle.gf2.specs.Stripes.{symbol, Valid, runOnStripe}
 use Rattle.gf2.specs.declared.Step.{Step}
 use Rattle.gf2.proofs.PlanLaws.{run-below}
 use Rattle.gf2.proofs.StripeLaws.{accepted-restores-stripes, symbol-patternStripe, symbol-run-on-pattern}

@@ -12,7 +12,7 @@ use lib.Dec.{eqb, ltb}
 use lib.ListN.{getD}
 use borrow.Author.Tests.{eqb-true, eqb-false, eq-eqb, lt-ltb}
 use Rattle.bits.proofs.Booleans.{bool-cases, and-left, and-right, and-true-if-both, or-true-if-left, or-true-if-right}
-use Rattle.codes.specs.Codes.{LinearCode, symbols, matrix, WithinLimits}
+use Rattle.codes.specs.Codes.{LinearCode, matrix, WithinLimits}
 use Rattle.codes.specs.Layouts.{symbolsOf, diskOf}
 use Rattle.lists.specs.Lists.{GoodList, GoodDisks, listed}
 use Rattle.plan_sheets.specs.InnerPlanSheets.{First, Third}

@@ -1,7 +1,5 @@
 -- `lists::disk_byte` meets its contract. Assumes nothing.
-use mathlib.Core.Path.{sym, ap}
 use native.Mathlib.Omega.{arith}
-use mathlib.Core.Bool.{Bool, cond}
 use borrow.Author.Tests.{lt-ltb, le-ltb}
 use Rattle.lists.proofs.disk_byte.Statement.{statement}
 use Rattle.lists.proofs.disk_byte.Tie as tie

@@ -1,6 +1,5 @@
 -- `losses::origin_of` meets its contract: the edition decides. Assumes nothing.
-use mathlib.Core.Path.{sym, ap, _∙_, subst}
-use Prim.Native.Nat.{ℕ, _<_}
+use mathlib.Core.Path.{ap, _∙_}
 use native.Mathlib.Omega.{arith}
 use borrow.Author.Tests.{eq-eqb, ne-eqb}
 use Rattle.codes.specs.Layouts.{firstSymbol}

@@ -1,6 +1,6 @@
 -- `losses::strip_of` meets its contract: the strip lies within the array, and the array within a set. Assumes nothing.
 use Prim.Native.Nat.{ℕ, _+_, _≤_}
-use mathlib.Core.Path.{_≡_, sym, ap, ap₂, _∙_, subst}
+use mathlib.Core.Path.{_≡_, ap, ap₂, _∙_}
 use native.Mathlib.Omega.{arith}
 use lib.Bits.{bitXor, xor-lt}
 use Rattle.codes.specs.Layouts.{firstSymbol, heightOf}

@@ -1,7 +1,6 @@
 -- `plan_ends::judge` meets its contract: the chain of tests is the order behind the head. Assumes nothing.
 use mathlib.Core.Path.{_≡_, sym, ap, _∙_, subst}
 use Prim.Native.Nat.{ℕ, _≤_}
-use native.Mathlib.Omega.{arith}
 use borrow.Author.Needs.{needs}
 use Rattle.bits.specs.BitSets.{has, count}
 use Rattle.bits.specs.Numerals.{numeral, numerals}

@@ -1,11 +1,9 @@
 -- `plan_ends::lowest_off` meets its contract. Assumes nothing.
-use mathlib.Core.Path.{sym, ap, _∙_}
-use mathlib.Core.Bool.{Bool, not, _&&_}
+use mathlib.Core.Path.{sym, _∙_}
 use native.Mathlib.Omega.{arith}
-use lib.Dec.{eqb}
 use borrow.Author.Needs.{needs}
 use borrow.Author.Tests.{le-ltb}
-use Rattle.bits.specs.Numerals.{setWidth, numeral}
+use Rattle.bits.specs.Numerals.{setWidth}
 use Rattle.plan_ends.proofs.lowest_off.Statement.{statement}
 use Rattle.plan_ends.proofs.lowest_off.Tie as tie
 

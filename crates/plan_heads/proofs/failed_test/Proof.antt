@@ -1,11 +1,11 @@
 -- `plan_heads::failed_test` meets its contract: good disks that are those asked have no fault. Assumes nothing.
-use mathlib.Core.Path.{sym, ap, _∙_}
-use mathlib.Core.Bool.{Bool, not}
+use mathlib.Core.Path.{sym, ap}
+use mathlib.Core.Bool.{not}
 use mathlib.Core.List.{[], _∷_, _++_}
 use Rattle.lists.specs.Lists.{diskFaults}
 use Rattle.lists.proofs.ListLaws.{no-fault-if-good-disks}
 use Rattle.plans.specs.Judgement.{mostFailed}
-use Rattle.refusals.specs.Orders.{_gets_, firstOf}
+use Rattle.refusals.specs.Orders.{_gets_}
 use Rattle.refusals.specs.Refusals.{_at_}
 use Rattle.refusals.proofs.OrderLaws.{none-holds-join, none-holds-means-fine}
 use Rattle.plan_heads.proofs.failed_test.Statement.{statement}

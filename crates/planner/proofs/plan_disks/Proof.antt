@@ -1,7 +1,6 @@
 -- `planner::plan_disks` meets its contract: an edition 3 sheet is asked for. Assumes nothing.
 use mathlib.Core.Path.{refl}
 use Rattle.plan_sheets.specs.InnerPlanSheets.{Third}
-use borrow.Author.Needs.{needs}
 use Rattle.planner.proofs.plan_disks.Statement.{statement}
 use Rattle.planner.proofs.plan_disks.Tie as tie
 
