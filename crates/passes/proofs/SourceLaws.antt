@@ -2,10 +2,11 @@
 use mathlib.Core.Path.{_≡_, refl}
 use mathlib.Core.Bool.{Bool, true, false, cond}
 use mathlib.Core.List.{List, [], _∷_, _++_, List·Memᴰ, List·Memᴰ·head, List·Memᴰ·tail}
-use Prim.Native.Nat.{ℕ, zero, suc, _+_, _*_, _≤_, _<_}
+use Prim.Native.Nat.{ℕ, zero, suc, _+_, _<_}
 use native.Mathlib.Omega.{arith}
 use lib.Dec.{eqb}
 use lib.ListN.{length, getD, take}
+use Rattle.gf2.specs.Stripes.{SymbolWithin}
 use Rattle.passes.specs.InnerSources.{places, listed, noSources, withSource, SourcesBelow}
 use Rattle.passes.specs.InnerSums.{EachWithin}
 use Rattle.passes.specs.declared.Sources.{Sources}
@@ -19,7 +20,7 @@ in-take (s ∷ list) (suc count) (suc place) h within = List·Memᴰ·tail (in-t
 
 -- What stands at a place below the count lies within the bytes
 pub place-within : (L bytes : ℕ) (sources : Sources) → EachWithin L bytes (listed sources) → (place : ℕ) → place < sources .count → place < 5
-    → (getD (places sources) place 0 + 1) * L ≤ bytes
+    → SymbolWithin L bytes (getD (places sources) place 0)
 place-within L bytes sources within place h few = within _ (in-take (places sources) (sources .count) place h few)
 
 -- A symbol put behind the others is listed behind them

@@ -1,9 +1,9 @@
 -- Laws of the sum that a pass makes: its length, its bytes, and a sum cut in two. Assumes nothing.
 use mathlib.Core.Path.{_≡_, refl, sym, ap, _∙_}
 use mathlib.Core.List.{List, [], _∷_, _++_, map, List·Memᴰ, List·Memᴰ·head, List·Memᴰ·tail}
-use Prim.Native.Nat.{ℕ, _+_, _*_, _≤_}
+use Prim.Native.Nat.{ℕ}
 use lib.ListN.{length, getD}
-use Rattle.gf2.specs.Stripes.{symbol, xorBytes}
+use Rattle.gf2.specs.Stripes.{symbol, SymbolWithin, xorBytes}
 use Rattle.gf2.proofs.SymbolLaws.{length-symbol, length-xorBytes, getD-xorBytes}
 use Rattle.passes.specs.InnerSums.{summedParts, summed, EachWithin, summedByte, partBytes}
 
@@ -41,7 +41,7 @@ module _ (L : ℕ) where
 
 module _ (L : ℕ) (bytes : List ℕ) where
   -- A symbol added to L bytes leaves L bytes
-  pub length-added : (first : List ℕ) (s : ℕ) → length first ≡ L → (s + 1) * L ≤ length bytes → length (xorBytes first (symbol L bytes s)) ≡ L
+  pub length-added : (first : List ℕ) (s : ℕ) → length first ≡ L → SymbolWithin L (length bytes) s → length (xorBytes first (symbol L bytes s)) ≡ L
   length-added first s e fits = length-with L first (symbol L bytes s) e (length-symbol L bytes s fits)
 
   -- Symbols that lie within the bytes have L bytes each

@@ -1,9 +1,9 @@
 -- What a pass makes: some bytes, and others added to them, XOR byte by byte.
 use mathlib.Core.List.{List, [], _∷_, map, List·Memᴰ}
-use Prim.Native.Nat.{ℕ, _+_, _*_, _≤_}
+use Prim.Native.Nat.{ℕ, _+_, _*_}
 use lib.Bits.{bitXor}
 use lib.ListN.{getD}
-use Rattle.gf2.specs.Stripes.{symbol, xorBytes}
+use Rattle.gf2.specs.Stripes.{symbol, SymbolWithin, xorBytes}
 
 -- Some bytes, and parts of as many bytes added to them, one after the other
 unfoldable pub summedParts : List ℕ → List (List ℕ) → List ℕ
@@ -16,7 +16,7 @@ summed L bytes first sources = summedParts first (map (symbol L bytes) sources)
 
 -- Each of some symbols lies within so many bytes
 abbrev pub EachWithin : ℕ → ℕ → List ℕ → Type 0
-EachWithin L bytes symbols = (s : ℕ) → List·Memᴰ s symbols → (s + 1) * L ≤ bytes
+EachWithin L bytes symbols = (s : ℕ) → List·Memᴰ s symbols → SymbolWithin L bytes s
 
 -- A byte, and others added to it
 unfoldable pub summedByte : ℕ → List ℕ → ℕ

@@ -9,7 +9,7 @@ use lib.Bits.{bitXor, xor-zero-l}
 use lib.ListN.{length, getD, replicate, length-replicate, getD-replicate}
 use Rattle.bits.specs.BitSets.{has}
 use Rattle.bits.specs.Lists.{symbolsIn}
-use Rattle.gf2.specs.Stripes.{symbol, xorBytes, encodedSymbol}
+use Rattle.gf2.specs.Stripes.{symbol, SymbolWithin, xorBytes, encodedSymbol}
 use Rattle.gf2.proofs.SymbolLaws.{length-symbol, length-xorBytes, getD-xorBytes, equal-if-bytes-equal, symbol-fits}
 use Rattle.passes.specs.InnerSources.{listed}
 use Rattle.passes.specs.InnerSums.{summedParts, summed}
@@ -62,7 +62,7 @@ module _ (row K L : ℕ) (bytes : List ℕ) (whole : length bytes ≡ K * L) whe
   none-taken next found behind = sym (ap (summed L bytes (replicate L 0)) (found .from-next ∙ taken-behind row K next (omega arith))) ∙ from-zeros
 
   module _ (first next : ℕ) (sources : Sources) (h : first < K) (gathers : Gathers row K (first + 1) sources next) where
-    fits : (first + 1) * L ≤ length bytes
+    fits : SymbolWithin L (length bytes) first
     fits = symbol-fits L K bytes first whole h
 
     -- A pass over a target that some bytes and the first stand for: they, the first and the sources are summed

@@ -5,10 +5,10 @@ ghost use lib.ListN.{length};
 ghost use Rattle.bits.specs.BitSets.{has};
 ghost use Rattle.bits.specs.Lists.{firstFrom};
 ghost use Rattle.bits.specs.Numerals.{setWidth, numeral};
-ghost use Rattle.gf2.specs.Stripes.{symbol, xorBytes, encodedSymbol};
+ghost use Rattle.gf2.specs.Stripes.{symbol, encodedSymbol};
 ghost use Rattle.passes.specs.InnerSources.{listed};
 ghost use Rattle.passes.specs.InnerSums.{summed};
-ghost use Rattle.row_passes.specs.InnerPasses.{DataSymbolFits, PassFits, Gathers};
+ghost use Rattle.row_passes.specs.InnerPasses.{DataSymbolFits, PassFits, begunWith, Gathers};
 use bits::BitSet;
 use bits::lowest_from;
 use part_passes::add;
@@ -33,38 +33,30 @@ fn data_symbol<'a>(contents: &'a [u8], t: usize, size: usize) -> &'a [u8]
     &contents[t * size..(t + 1) * size]
 }
 
-// The target becomes a data symbol, and the sources are added.
-fn copy_pass(target: &mut [u8], contents: &[u8], first: usize, size: usize, sources: Sources)
+// One pass: the target becomes a data symbol, or where it holds a sum already itself XOR that symbol, and the sources are added.
+fn do_pass(
+    holds_sum: bool,
+    target: &mut [u8],
+    contents: &[u8],
+    first: usize,
+    size: usize,
+    sources: Sources,
+)
     requires { ⌜ PassFits size (length (now contents)) first sources × (length (now target) ≡ size) ⌝ }
-    ensures { λ _. ⌜ now (target .exit) ≡ summed size (now (contents .entry)) (symbol size (now (contents .entry)) first) (listed sources) ⌝ }
+    ensures { λ _. ⌜ now (target .exit) ≡ summed size (now (contents .entry)) (begunWith «holds_sum» (now (target .entry)) (symbol size (now (contents .entry)) first)) (listed sources) ⌝ }
 {
-    copy(
-        target,
-        data_symbol(contents, first, size),
-        sources.count,
-        data_symbol(contents, sources.a, size),
-        data_symbol(contents, sources.b, size),
-        data_symbol(contents, sources.c, size),
-        data_symbol(contents, sources.d, size),
-        data_symbol(contents, sources.e, size),
-    )
-}
-
-// The target becomes itself XOR a data symbol, and the sources are added.
-fn add_pass(target: &mut [u8], contents: &[u8], first: usize, size: usize, sources: Sources)
-    requires { ⌜ PassFits size (length (now contents)) first sources × (length (now target) ≡ size) ⌝ }
-    ensures { λ _. ⌜ now (target .exit) ≡ summed size (now (contents .entry)) (xorBytes (now (target .entry)) (symbol size (now (contents .entry)) first)) (listed sources) ⌝ }
-{
-    add(
-        target,
-        data_symbol(contents, first, size),
-        sources.count,
-        data_symbol(contents, sources.a, size),
-        data_symbol(contents, sources.b, size),
-        data_symbol(contents, sources.c, size),
-        data_symbol(contents, sources.d, size),
-        data_symbol(contents, sources.e, size),
-    )
+    let count = sources.count;
+    let begun = data_symbol(contents, first, size);
+    let a = data_symbol(contents, sources.a, size);
+    let b = data_symbol(contents, sources.b, size);
+    let c = data_symbol(contents, sources.c, size);
+    let d = data_symbol(contents, sources.d, size);
+    let e = data_symbol(contents, sources.e, size);
+    if holds_sum {
+        add(target, begun, count, a, b, c, d, e)
+    } else {
+        copy(target, begun, count, a, b, c, d, e)
+    }
 }
 
 // The first data symbol of a row from one on; K where there is none.
@@ -114,12 +106,12 @@ pub fn encode_symbol(
     }
     let pass = gather(row, first, data_symbols);
     let sources = pass.sources;
-    copy_pass(target, contents, first, size, sources);
+    do_pass(false, target, contents, first, size, sources);
     let mut next = pass.next;
     while next < data_symbols {
         let pass = gather(row, next, data_symbols);
         let sources = pass.sources;
-        add_pass(target, contents, next, size, sources);
+        do_pass(true, target, contents, next, size, sources);
         next = pass.next;
     }
 }

@@ -3,7 +3,7 @@ use mathlib.Core.Path.{_≡_, refl, sym, ap, _∙_, subst}
 use mathlib.Core.Bool.{true, not, _&&_}
 use mathlib.Core.Logic.{_≢_, ⊎-elim}
 use mathlib.Core.List.{List, [], _∷_, _++_, map, List·Memᴰ, List·Memᴰ·head, List·Memᴰ·tail, List·Memᴰ·not-nil, List·Memᴰ·append-cases, List·Memᴰ·eq-of-singleton}
-use Prim.Native.Nat.{ℕ, _+_, _*_, _≤_, _<_}
+use Prim.Native.Nat.{ℕ, _+_, _≤_, _<_}
 use native.Mathlib.Omega.{arith}
 use lib.Dec.{eqb, leb}
 use lib.ListN.{length}
@@ -12,7 +12,7 @@ use Rattle.bits.proofs.Booleans.{and-left, and-right}
 use Rattle.gf2.specs.Plans.{target}
 use Rattle.gf2.specs.declared.Step.{Step}
 use Rattle.gf2.specs.declared.Step.the-variants.{Add}
-use Rattle.gf2.specs.Stripes.{symbol, xorBytes, putSymbol, runOnStripe}
+use Rattle.gf2.specs.Stripes.{symbol, SymbolWithin, xorBytes, putSymbol, runOnStripe}
 use Rattle.passes.specs.InnerSums.{summedParts, summed, EachWithin}
 use Rattle.passes.proofs.SumLaws.{length-added}
 use Rattle.plan_sheets.specs.PlanSheets.{stepOf, stepAt}
@@ -72,7 +72,7 @@ taken-behind-step bytes count from step own behind taken decoded =
 -- The adds on a stripe
 
 -- Run on a stripe in which t was replaced, they leave t replaced by the sum
-pub adds-on-put : (L : ℕ) (x : List ℕ) (t : ℕ) → (t + 1) * L ≤ length x → (sources : List ℕ) (rest : List Step) (v : List ℕ) → length v ≡ L
+pub adds-on-put : (L : ℕ) (x : List ℕ) (t : ℕ) → SymbolWithin L (length x) t → (sources : List ℕ) (rest : List Step) (v : List ℕ) → length v ≡ L
     → EachWithin L (length x) sources → ((s : ℕ) → List·Memᴰ s sources → s ≢ t)
     → runOnStripe L (addsTo t sources ++ rest) (putSymbol L x t v) ≡ runOnStripe L rest (putSymbol L x t (summed L x v sources))
 unfolding summedParts runOnStripe

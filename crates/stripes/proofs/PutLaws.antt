@@ -2,21 +2,21 @@
 use mathlib.Core.Path.{_≡_, sym, ap, ap₂, _∙_}
 use mathlib.Core.List.{List, _++_}
 use mathlib.Core.Logic.{_≢_}
-use Prim.Native.Nat.{ℕ, _+_, _*_, _≤_}
+use Prim.Native.Nat.{ℕ, _+_, _*_}
 use native.Mathlib.Omega.{arith}
 use lib.ListN.{length, take, drop}
 use lib.Seq.{length-take-le, take-at, drop-at, drop-drop}
-use Rattle.gf2.specs.Stripes.{symbol, xorBytes, putSymbol}
+use Rattle.gf2.specs.Stripes.{symbol, SymbolWithin, xorBytes, putSymbol}
 use Rattle.gf2.proofs.SymbolLaws.{equal-if-bytes-equal, symbols-equal-if-bytes-equal, length-symbol, getD-symbol}
 use Rattle.gf2.proofs.SymbolLaws.{length-putSymbol, getD-putSymbol-inside, getD-putSymbol-outside, outside-other-symbol}
 
-module _ (L : ℕ) (x : List ℕ) (t : ℕ) (v : List ℕ) (fits : (t + 1) * L ≤ length x) (v-length : length v ≡ L) where
+module _ (L : ℕ) (x : List ℕ) (t : ℕ) (v : List ℕ) (fits : SymbolWithin L (length x) t) (v-length : length v ≡ L) where
   -- The stripe in which the symbol is replaced
   abbrev put : List ℕ
   put = putSymbol L x t v
 
   -- It has the same symbols within it
-  within : (s : ℕ) → (s + 1) * L ≤ length x → (s + 1) * L ≤ length put
+  within : (s : ℕ) → SymbolWithin L (length x) s → SymbolWithin L (length put) s
   within s h = rw (length-putSymbol L x t v fits v-length) h
 
   -- The symbol is the new one
@@ -26,7 +26,7 @@ module _ (L : ℕ) (x : List ℕ) (t : ℕ) (v : List ℕ) (fits : (t + 1) * L �
       (λ i h. getD-symbol L put t i h ∙ getD-putSymbol-inside L x t v fits v-length i h)
 
   -- Any other is as it was
-  symbol-put-other : (s : ℕ) → (s + 1) * L ≤ length x → s ≢ t → symbol L put s ≡ symbol L x s
+  symbol-put-other : (s : ℕ) → SymbolWithin L (length x) s → s ≢ t → symbol L put s ≡ symbol L x s
   symbol-put-other s h apart =
       symbols-equal-if-bytes-equal L put x s s (within s h) h
       (λ i below. getD-putSymbol-outside L x t v fits v-length (s * L + i) (outside-other-symbol L t s i below apart))
@@ -43,6 +43,6 @@ module _ (L : ℕ) (x : List ℕ) (t : ℕ) (v : List ℕ) (fits : (t + 1) * L �
       ∙ drop-at v back L v-length)
 
   -- Another symbol added to it: replaced by the new one with that added
-  pub add-to-put : (s : ℕ) → (s + 1) * L ≤ length x → s ≢ t
+  pub add-to-put : (s : ℕ) → SymbolWithin L (length x) s → s ≢ t
       → putSymbol L put t (xorBytes (symbol L put t) (symbol L put s)) ≡ putSymbol L x t (xorBytes v (symbol L x s))
   add-to-put s h apart = ap₂ (λ (a b : List ℕ). putSymbol L put t (xorBytes a b)) symbol-put-same (symbol-put-other s h apart) ∙ put-put (xorBytes v (symbol L x s))

@@ -10,7 +10,7 @@ use lib.Bits.{bitXor}
 use lib.ListN.{length, getD, set, take, drop, replicate, length-replicate, getD-replicate}
 use lib.Seq.{paste}
 use Rattle.bits.proofs.StoreLaws.{stored-more, stored-all, stored-before, stored-behind}
-use Rattle.gf2.specs.Stripes.{symbol, xorBytes, putSymbol}
+use Rattle.gf2.specs.Stripes.{symbol, SymbolWithin, xorBytes, putSymbol}
 use Rattle.gf2.proofs.SymbolLaws.{length-symbol, getD-symbol, getD-xorBytes}
 use Rattle.passes.specs.InnerSums.{summed, EachWithin, summedByte, partBytes, symbolBytes}
 use Rattle.passes.proofs.SumLaws.{length-added, symbols-whole, length-summed, getD-summedParts}
@@ -19,7 +19,7 @@ use Rattle.passes.proofs.SumLaws.{length-added, symbols-whole, length-summed, g
 abbrev pub symbolTo : ℕ → List ℕ → ℕ → List ℕ → ℕ → List ℕ
 symbolTo L old t new done = paste old (t * L) new done
 
-module _ (L : ℕ) (old : List ℕ) (t : ℕ) (new : List ℕ) (fits : (t + 1) * L ≤ length old) (new-length : length new ≡ L) where
+module _ (L : ℕ) (old : List ℕ) (t : ℕ) (new : List ℕ) (fits : SymbolWithin L (length old) t) (new-length : length new ≡ L) where
   room : t * L + length new ≤ length old
   room = omega arith
 
@@ -53,7 +53,7 @@ bytes-unread : (L : ℕ) (stripe now : List ℕ) (i : ℕ) → ((s : ℕ) → ge
 bytes-unread L stripe now i same [] = refl
 bytes-unread L stripe now i same (s ∷ sources) = ap₂ _∷_ (same s) (bytes-unread L stripe now i same sources)
 
-module _ (L : ℕ) (old : List ℕ) (t : ℕ) (t-fits : (t + 1) * L ≤ length old) (sources : List ℕ) (within : EachWithin L (length old) sources)
+module _ (L : ℕ) (old : List ℕ) (t : ℕ) (t-fits : SymbolWithin L (length old) t) (sources : List ℕ) (within : EachWithin L (length old) sources)
     (start : List ℕ) (start-length : length start ≡ L) where
   -- What a pass leaves of the target where it begins with `start`
   abbrev total : List ℕ
@@ -82,7 +82,7 @@ module _ (L : ℕ) (old : List ℕ) (t : ℕ) (t-fits : (t + 1) * L ≤ length o
 -- ------------------------------------------------------------------
 -- The three loops
 
-module _ (L : ℕ) (old : List ℕ) (t : ℕ) (t-fits : (t + 1) * L ≤ length old) (sources : List ℕ) (within : EachWithin L (length old) sources) where
+module _ (L : ℕ) (old : List ℕ) (t : ℕ) (t-fits : SymbolWithin L (length old) t) (sources : List ℕ) (within : EachWithin L (length old) sources) where
   -- What is left of a target that is cleared first
   abbrev pub clearedTotal : List ℕ
   clearedTotal = summed L old (replicate L 0) sources
@@ -96,7 +96,7 @@ module _ (L : ℕ) (old : List ℕ) (t : ℕ) (t-fits : (t + 1) * L ≤ length o
   pub cleared-all : (now : List ℕ) (i : ℕ) → i ≡ L → now ≡ symbolTo L old t clearedTotal i → now ≡ putSymbol L old t clearedTotal
   cleared-all = sum-all L old t t-fits sources within (replicate L 0) (length-replicate L 0)
 
-  module _ (s : ℕ) (s-fits : (s + 1) * L ≤ length old) where
+  module _ (s : ℕ) (s-fits : SymbolWithin L (length old) s) where
     -- What is left of a target that a symbol is copied to first
     abbrev pub copiedTotal : List ℕ
     copiedTotal = summed L old (symbol L old s) sources

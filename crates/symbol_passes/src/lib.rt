@@ -3,14 +3,14 @@
 ghost use mathlib.Core.Path.{_≡_};
 ghost use Prim.Native.Nat.{_+_, _*_, _≤_, _<_};
 ghost use lib.ListN.{length, getD, replicate};
-ghost use Rattle.gf2.specs.Stripes.{symbol, xorBytes, putSymbol};
+ghost use Rattle.gf2.specs.Stripes.{symbol, SymbolWithin, xorBytes, putSymbol};
 ghost use Rattle.passes.specs.InnerSources.{listed};
 ghost use Rattle.passes.specs.InnerSums.{summed, EachWithin, summedByte, symbolBytes};
 use passes::Sources;
 
 // Byte i of symbol s.
 fn symbol_byte(stripe: &[u8], s: usize, size: usize, i: usize) -> u8
-    requires { ⌜ ((s + 1) * size ≤ length (now stripe)) × (i < size) ⌝ }
+    requires { ⌜ SymbolWithin size (length (now stripe)) s × (i < size) ⌝ }
     ensures { λ r. ⌜ r ≡ getD (now (stripe .entry)) (s * size + i) 0 ⌝ }
 {
     stripe[s * size + i]
@@ -48,7 +48,7 @@ fn sum(first: u8, stripe: &[u8], sources: Sources, size: usize, i: usize) -> u8
 
 // The target becomes zero bytes, and the sources are added.
 pub fn clear(stripe: &mut [u8], target: usize, size: usize, sources: Sources)
-    requires { ⌜ ((target + 1) * size ≤ length (now stripe)) × (sources .count ≤ 5) × EachWithin size (length (now stripe)) (listed sources) ⌝ }
+    requires { ⌜ SymbolWithin size (length (now stripe)) target × (sources .count ≤ 5) × EachWithin size (length (now stripe)) (listed sources) ⌝ }
     ensures { λ _. ⌜ now (stripe .exit) ≡ putSymbol size (now (stripe .entry)) target (summed size (now (stripe .entry)) (replicate size 0) (listed sources)) ⌝ }
 {
     let to = target * size;
@@ -61,7 +61,7 @@ pub fn clear(stripe: &mut [u8], target: usize, size: usize, sources: Sources)
 
 // The target becomes a symbol, and the sources are added.
 pub fn copy(stripe: &mut [u8], target: usize, source: usize, size: usize, sources: Sources)
-    requires { ⌜ ((target + 1) * size ≤ length (now stripe)) × ((source + 1) * size ≤ length (now stripe)) × (sources .count ≤ 5) × EachWithin size (length (now stripe)) (listed sources) ⌝ }
+    requires { ⌜ SymbolWithin size (length (now stripe)) target × SymbolWithin size (length (now stripe)) source × (sources .count ≤ 5) × EachWithin size (length (now stripe)) (listed sources) ⌝ }
     ensures { λ _. ⌜ now (stripe .exit) ≡ putSymbol size (now (stripe .entry)) target (summed size (now (stripe .entry)) (symbol size (now (stripe .entry)) source) (listed sources)) ⌝ }
 {
     let to = target * size;
@@ -75,7 +75,7 @@ pub fn copy(stripe: &mut [u8], target: usize, source: usize, size: usize, source
 
 // The target becomes itself XOR a symbol, and the sources are added.
 pub fn add(stripe: &mut [u8], target: usize, source: usize, size: usize, sources: Sources)
-    requires { ⌜ ((target + 1) * size ≤ length (now stripe)) × ((source + 1) * size ≤ length (now stripe)) × (sources .count ≤ 5) × EachWithin size (length (now stripe)) (listed sources) ⌝ }
+    requires { ⌜ SymbolWithin size (length (now stripe)) target × SymbolWithin size (length (now stripe)) source × (sources .count ≤ 5) × EachWithin size (length (now stripe)) (listed sources) ⌝ }
     ensures { λ _. ⌜ now (stripe .exit) ≡ putSymbol size (now (stripe .entry)) target (summed size (now (stripe .entry)) (xorBytes (symbol size (now (stripe .entry)) target) (symbol size (now (stripe .entry)) source)) (listed sources)) ⌝ }
 {
     let to = target * size;

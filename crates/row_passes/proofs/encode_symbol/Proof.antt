@@ -39,8 +39,8 @@ gather-requires c κs =
     let found = next-found (numeral (start .args .row)) (start .args .data-symbols) 0 _ (omega arith) (c .before .next-symbol .ensures) in
     (omega (arith, found .next-to, c .if1 .left), start .pre .0)
 
-copy-pass-requires : tie.Need-copy-pass-requires Inv-loop μ-loop
-copy-pass-requires c κs =
+do-pass-requires : tie.Need-do-pass-requires Inv-loop μ-loop
+do-pass-requires c κs =
     let start = c .before .before .before .before .before .before .before in
     let args = start .args in
     let found = next-found (numeral (args .row)) (args .data-symbols) 0 _ (omega arith) (c .before .before .before .before .next-symbol .ensures) in
@@ -51,13 +51,13 @@ loop-holds c =
     let start = c .before .before .before .before .before .before .before .before .before .before in
     let args = start .args in
     let found = next-found (numeral (args .row)) (args .data-symbols) 0 _ (omega arith) (c .before .before .before .before .before .before .before .next-symbol .ensures) in
-    first-pass (numeral (args .row)) (args .data-symbols) (args .size) (args .contents .now) (start .pre .1) _ _ _ (omega (arith, found .next-to, c .before .before .before .before .before .before .if1 .left)) (c .before .before .before .before .before .gather .ensures) found _ (c .before .before .copy-pass .ensures)
+    first-pass (numeral (args .row)) (args .data-symbols) (args .size) (args .contents .now) (start .pre .1) _ _ _ (omega (arith, found .next-to, c .before .before .before .before .before .before .if1 .left)) (c .before .before .before .before .before .gather .ensures) found _ (c .before .before .do-pass .ensures)
 
 gather-requires-2 : tie.Need-gather-requires-2 Inv-loop μ-loop
 gather-requires-2 c κs = omega arith
 
-add-pass-requires : tie.Need-add-pass-requires Inv-loop μ-loop
-add-pass-requires c κs =
+do-pass-requires-2 : tie.Need-do-pass-requires-2 Inv-loop μ-loop
+do-pass-requires-2 c κs =
     let start = c .before .before .before .before .before .before .before .before .before .before .before .before .before .before .before in
     let args = start .args in
     let loop = c .before .before .before .before .loop in
@@ -71,7 +71,7 @@ loop-again c =
     let start = c .before .before .before .before .before .before .before .before .before .before .before .before .before .before .before .before .before .before in
     let args = start .args in
     let loop = c .before .before .before .before .before .before .before .loop in
-    next-pass (numeral (args .row)) (args .data-symbols) (args .size) (args .contents .now) (start .pre .1) _ _ _ (omega arith) (c .before .before .before .before .before .gather2 .ensures) (loop .target) (loop .inv) _ (c .before .before .add-pass .ensures)
+    next-pass (numeral (args .row)) (args .data-symbols) (args .size) (args .contents .now) (start .pre .1) _ _ _ (omega arith) (c .before .before .before .before .before .gather2 .ensures) (loop .target) (loop .inv) _ (c .before .before .do-pass2 .ensures)
 
 same-length-2 : tie.Need-same-length-2 Inv-loop μ-loop
 same-length-2 c = omega arith
@@ -94,10 +94,10 @@ encode-symbol-spec =
     same-length
     returns
     gather-requires
-    copy-pass-requires
+    do-pass-requires
     loop-holds
     gather-requires-2
-    add-pass-requires
+    do-pass-requires-2
     loop-less
     loop-again
     same-length-2
