@@ -151,7 +151,7 @@ module _ (layout : Layout) (wanted : ℕ → Bool) (subsets : List ℕ) {symbols
       record {
         symbols-to = omega (arith, fits .layout-within .symbols-to, symbols-is);
         subsets-below = λ t. rw symbols-is (fits .subsets-below t);
-        fits = record { steps-fit = omega (arith, fits .steps-fit, same); room = omega (arith, fits .room, same, place, long, length-drop start lent) };
+        fits = record { few = omega (arith, fits .steps-fit, same); room = omega (arith, fits .room, same, place, long, length-drop start lent) };
       }
 
   module _ {number sources : ℕ} (told : Tells symbols (subsetPlan symbols wanted subsets) number sources) where

@@ -120,7 +120,7 @@ module _ {lent : List ℕ} {start : ℕ} {all : List Step} {buffer : List ℕ} {
   next-fits xs rest reached =
       let sum = length-append xs rest in
       let within = reached .fits in
-      record { steps-fit = omega arith; room = omega arith }
+      record { few = omega arith; room = omega arith }
 
   -- Some steps more are written
   pub remaining-next : (xs rest : List Step) → Remaining lent start all buffer number (xs ++ rest)
@@ -133,7 +133,7 @@ module _ {lent : List ℕ} {start : ℕ} {all : List Step} {buffer : List ℕ} {
       record {
         same-length = same ∙ reached .same-length;
         same-end = omega (arith, reached .same-end);
-        fits = record { steps-fit = omega arith; room = omega arith };
+        fits = record { few = omega arith; room = omega arith };
         same-buffer =
             ap₂ (λ (b : List ℕ) (n : ℕ). withSteps b n rest) written next
             ∙ withSteps-append buffer number (omega arith) xs rest ∙ reached .same-buffer;

@@ -90,6 +90,10 @@ stepCount sheet = stepCountAt (sectionsIn sheet) sheet
 -- ------------------------------------------------------------------
 -- The steps
 
+-- "A plan has 0 to 1,024 steps"
+abbrev pub mostSteps : ℕ
+mostSteps = 1024
+
 -- The length of so many steps
 abbrev pub stepsLength : ℕ → ℕ
 stepsLength steps = 3 * steps

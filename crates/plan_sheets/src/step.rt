@@ -1,11 +1,11 @@
 // A step of a plan sheet: 3 bytes, its kind, its target and its source.
 ghost use mathlib.Core.Path.{_≡_};
 ghost use mathlib.Core.List.{[], _∷_, _++_};
-ghost use Prim.Native.Nat.{_+_, _≤_, _<_};
+ghost use Prim.Native.Nat.{_+_, _<_};
 ghost use lib.ListN.{length, take, drop};
 ghost use Rattle.gf2.specs.Plans.{NamesBelow};
 ghost use Rattle.plan_sheets.specs.PlanSheets.{stepOf, stepsLength, stepAt};
-ghost use Rattle.plan_sheets.specs.InnerPlanSheets.{withSteps, StepsFit};
+ghost use Rattle.plan_sheets.specs.InnerPlanSheets.{withSteps, StepsWithin, StepsFit};
 use gf2::Step;
 
 // A step as a sheet has it.
@@ -17,7 +17,7 @@ pub struct SheetStep {
 
 // Step `number` of the part of a sheet that has its steps: all its bytes are there.
 pub fn step_at(steps: &[u8], number: usize) -> SheetStep
-    requires { ⌜ (number < 1024) × (stepsLength (number + 1) ≤ length (now steps)) ⌝ }
+    requires { ⌜ StepsWithin (number + 1) (length (now steps)) ⌝ }
     ensures { λ r. ⌜ r ≡ stepAt (now (steps .entry)) number ⌝ }
 {
     let at = 3 * number;
@@ -46,7 +46,7 @@ pub fn decoded(step: SheetStep) -> Step
 
 // The 3 bytes of step `number`, in the part of the buffer behind the head.
 fn write_bytes(kind: usize, target: usize, source: usize, number: usize, buffer: &mut [u8])
-    requires { ⌜ (kind < 256) × (target < 256) × (source < 256) × (number < 1024) × (stepsLength (number + 1) ≤ length (now buffer)) ⌝ }
+    requires { ⌜ (kind < 256) × (target < 256) × (source < 256) × StepsWithin (number + 1) (length (now buffer)) ⌝ }
     ensures { λ _. ⌜ now (buffer .exit) ≡ take (stepsLength number) (now (buffer .entry)) ++ (kind ∷ target ∷ source ∷ []) ++ drop (stepsLength (number + 1)) (now (buffer .entry)) ⌝ }
 {
     let at = 3 * number;

@@ -23,7 +23,7 @@ use Rattle.gf2.proofs.SubsetPlanLaws.{planOf-same}
 use Rattle.plan_sheets.specs.PlanSheets.{listFrom, sectionsFor, headLength}
 use Rattle.plan_sheets.specs.InnerPlanSheets.{EditionFits, First, Second, Third, sectionsOf, subsetPlan, sourceCount, PlanFits}
 use Rattle.plans.specs.Judgement.{survives, lostCount}
-use Rattle.plans.proofs.JudgementLaws.{lost-below}
+use Rattle.plans.proofs.JudgementLaws.{lost-below, lost-at-most}
 use Rattle.refusals.specs.Orders.{Gives}
 use Rattle.sheets.specs.Buffers.{atFront}
 use Rattle.solve.specs.InnerSolving.{oddPattern, wantedSubsets}
@@ -32,7 +32,7 @@ use Rattle.plan_requests.specs.PlanRequests.{Asked, leastBuffer}
 use Rattle.planning.specs.Planning.{APlan, APattern}
 use Rattle.planning.specs.Demand3.{askedSymbols, CannotBeRebuilt}
 use Rattle.planning.specs.InnerWork.{Workable, RightSteps, sheetOf, Worked}
-use Rattle.planning.proofs.StripLaws.{lost-at-most, lost-of-one}
+use Rattle.planning.proofs.StripLaws.{lost-of-one}
 use Rattle.planning.proofs.WorkLaws.{targets, survivingRows, patternsLeft, pivotsFound, patternFound, subsetOf, stepsFound, asked-is-lost, target-wanted, survivors-counted, found-rules-plans-out, steps-right}
 
 -- The least buffer has room for a head and 1,024 steps

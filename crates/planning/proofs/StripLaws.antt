@@ -33,10 +33,6 @@ module _ (layout : Layout) (disks : List ℕ) where
   pub count-survivors : countFrom (survives layout disks) 0 (symbolsOf layout) ≡ symbolsOf layout - lostCount layout disks
   count-survivors = omega (arith, both-counted)
 
-  -- No more are lost than there are
-  pub lost-at-most : lostCount layout disks ≤ symbolsOf layout
-  lost-at-most = omega (arith, both-counted)
-
 module _ (layout : Layout) (some : 1 ≤ layout .height) (disk : ℕ) (disk-below : disk < layout .disks) where
   -- The symbols lost with one disk are those on it
   lost-on-disk : (s : ℕ) → lost layout (disk ∷ []) s ≡ (ltb s (symbolsOf layout) && onDisk layout disk s)

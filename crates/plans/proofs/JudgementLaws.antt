@@ -3,7 +3,7 @@ use mathlib.Core.Path.{_≡_, refl, sym, ap, _∙_, subst}
 use mathlib.Core.Bool.{Bool, true, false, cond, not, _&&_, _||_, or-false, true≢false}
 use mathlib.Core.List.{List, [], _∷_, _++_, map, List·Memᴰ·head, List·Memᴰ·tail}
 use mathlib.Core.Logic.{_⊎_, inl, inr, ⊎-elim}
-use Prim.Native.Nat.{ℕ, suc, _+_, _-_, _*_, _^_, _≤_, _<_}
+use Prim.Native.Nat.{ℕ, suc, _*_, _^_, _≤_, _<_}
 use native.Mathlib.Omega.{arith}
 use native.Mathlib.Decide.{decLt}
 use lib.Dec.{eqb, ltb}
@@ -19,6 +19,7 @@ use Rattle.gf2.specs.Plans.{run, Within, PlacesBelow, extend, UsesOnlyKnown, do
 use Rattle.gf2.specs.Selection.{Below}
 use Rattle.gf2.specs.Stripes.{Valid, runOnStripe, SameSymbols, RestoresStripes}
 use Rattle.bits.proofs.Booleans.{and-left, and-right, and-true-if-both}
+use Rattle.bits.proofs.CountLaws.{countFrom-halves}
 use Rattle.gf2.proofs.Columns.{length-runOnStripe}
 use Rattle.gf2.proofs.PlanLaws.{run-take}
 use Rattle.bits.proofs.SearchLaws.{firstFrom-none, none-if-firstFrom-behind}
@@ -31,7 +32,7 @@ use Rattle.refusals.proofs.OrderLaws.{NoneHolds, fine-means-none-holds, none-ho
 use Rattle.plan_sheets.specs.PlanSheets.{Plan, firstCount, stepOf, stepsOf}
 use Rattle.plan_sheets.specs.declared.step.SheetStep.{SheetStep}
 use Rattle.plan_sheets.specs.declared.head.PlanHead.{PlanHead}
-use Rattle.plans.specs.Judgement.{lost, survives, editionOf, headFaults, mostFailed, failedFaults, wantedOf, keptOf, leastWanted, mostWanted, wantedFaults, EachFormed, stepFaults, stepsVerdict, trueReadCount, neverFilled, endsWrong, lowestWanted, endFaults, SetsWithin, judgement, originOf, bodyVerdict, planFaults, planVerdict}
+use Rattle.plans.specs.Judgement.{lost, survives, lostCount, editionOf, headFaults, mostFailed, failedFaults, wantedOf, keptOf, leastWanted, mostWanted, wantedFaults, EachFormed, stepFaults, stepsVerdict, trueReadCount, neverFilled, endsWrong, lowestWanted, endFaults, SetsWithin, judgement, originOf, bodyVerdict, planFaults, planVerdict}
 use Rattle.plans.specs.Demand2.{HeadFits, Deserves}
 use Rattle.plan_sheets.proofs.ReadingLaws.{target-stepOf}
 
@@ -247,6 +248,10 @@ module _ (layout : Layout) (disks : List ℕ) where
   -- Lost symbols are symbols of the array
   pub lost-below : PlacesBelow (symbolsOf layout) (lost layout disks)
   lost-below s h = ltb-true s (symbolsOf layout) (and-left (ltb s (symbolsOf layout)) (listed disks (diskOf layout s)) h)
+
+  -- and no more of them than it has
+  pub lost-at-most : lostCount layout disks ≤ symbolsOf layout
+  lost-at-most = omega (arith, countFrom-halves (lost layout disks) (λ s. not (lost layout disks s)) 0 (symbolsOf layout) (λ s h. refl))
 
   -- So are surviving ones
   pub survives-below : PlacesBelow (symbolsOf layout) (survives layout disks)

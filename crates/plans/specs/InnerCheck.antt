@@ -33,13 +33,12 @@ closeOrder disks edition failed apart lostSymbols count bad whole sheetBytes =
     ++ listOrder count (leastWanted edition) (cond (eqb edition 1) 0 lostSymbols) bad (23 at 0) (23 at bad)
     ++ lengthFaults whole sheetBytes
 
--- What judging the steps needs: a code within the limits, disks and a list that are good, the set of the lost symbols, and a step count within the limit
-pub record PlanJudged (code : LinearCode) (disks : List ℕ) (gone : ℕ) (head : PlanHead) (list : List ℕ) (steps : ℕ) : Type 0 where
+-- What judging the steps needs: a code within the limits, disks and a list that are good, and the set of the lost symbols
+pub record PlanJudged (code : LinearCode) (disks : List ℕ) (gone : ℕ) (head : PlanHead) (list : List ℕ) : Type 0 where
   pub within : WithinLimits code
   pub disks-good : GoodDisks (code .layout .disks) (mostFailed (head .edition) (code .layout .disks)) disks
   pub gone-is : (s : ℕ) → has gone s ≡ lost (code .layout) disks s
   pub list-good : GoodList (leastWanted (head .edition)) (mostWanted (code .layout) disks (head .edition)) (lost (code .layout) disks) list
-  pub steps-few : steps ≤ 1024
 
 -- The disks that a sheet lists are good where they are those asked: they were tested before
 abbrev pub KnownDisks : ℕ → ℕ → List ℕ → Bool → Type 0

@@ -5,7 +5,8 @@ ghost use lib.ListN.{length};
 ghost use Rattle.bits.specs.BitSets.{has};
 ghost use Rattle.bits.specs.Numerals.{setWidth, numeral};
 ghost use Rattle.gf2.specs.Plans.{ready, NamesBelow};
-ghost use Rattle.plan_sheets.specs.PlanSheets.{stepsLength, stepAt};
+ghost use Rattle.plan_sheets.specs.InnerPlanSheets.{StepsWithin};
+ghost use Rattle.plan_sheets.specs.PlanSheets.{stepAt};
 ghost use Rattle.plans.specs.Judgement.{malformed, ontoItself, stepReading};
 ghost use Rattle.plans.specs.InnerProgress.{asStep};
 ghost use Rattle.refusals.specs.Orders.{outcome, outcomeOf};
@@ -95,7 +96,7 @@ pub fn read_step(
     wanted: BitSet,
     known: BitSet,
 ) -> StepReading
-    requires { ⌜ (symbols ≤ setWidth) × (number < 1024) × (stepsLength (number + 1) ≤ length (now steps)) ⌝ }
+    requires { ⌜ (symbols ≤ setWidth) × StepsWithin (number + 1) (length (now steps)) ⌝ }
     ensures { λ r. ⌜ asStep r ≡ stepReading symbols (has (numeral wanted)) (has (numeral known)) number (stepAt (now (steps .entry)) number) ⌝ }
 {
     judge_step(step_at(steps, number), number, symbols, wanted, known)

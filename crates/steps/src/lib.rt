@@ -5,7 +5,8 @@ ghost use lib.ListN.{length};
 ghost use Rattle.bits.specs.BitSets.{has};
 ghost use Rattle.bits.specs.Numerals.{setWidth, numeral, numerals};
 ghost use Rattle.gf2.specs.Plans.{target};
-ghost use Rattle.plan_sheets.specs.PlanSheets.{stepsLength, sheetSteps};
+ghost use Rattle.plan_sheets.specs.InnerPlanSheets.{StepsWithin};
+ghost use Rattle.plan_sheets.specs.PlanSheets.{sheetSteps};
 ghost use Rattle.plans.specs.InnerProgress.{sourceOf, valueOf, reached, Progressed};
 use bits::BitSet;
 use bits::BitSets;
@@ -68,7 +69,7 @@ pub fn run_on_rows(
     steps: &[u8],
     count: usize,
 ) -> Progress
-    requires { ⌜ (symbols ≤ setWidth) × (count ≤ 1024) × (stepsLength count ≤ length (now steps)) ⌝ }
+    requires { ⌜ (symbols ≤ setWidth) × StepsWithin count (length (now steps)) ⌝ }
     ensures { λ r. ⌜ Progressed symbols (has (numeral wanted)) (numerals «code_rows») (numeral survivors) (sheetSteps count (now (steps .entry))) (reached r) ⌝ }
 {
     let mut rows = code_rows;

@@ -13,7 +13,7 @@ use Rattle.plan_ends.proofs.judge.Statement.{statement}
 use Rattle.plan_ends.proofs.judge.Tie as tie
 
 run-on-rows-requires : tie.Need-run-on-rows-requires
-run-on-rows-requires c κs = (c .before .before .before .pre .0, c .before .before .before .pre .2, c .before .before .before .pre .3)
+run-on-rows-requires c κs = (c .before .before .before .pre .0, c .before .before .before .pre .2)
 
 first-unfilled-requires : tie.Need-first-unfilled-requires
 first-unfilled-requires c κs = c .before .before .before .before .before .pre .0

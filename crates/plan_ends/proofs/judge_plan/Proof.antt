@@ -38,7 +38,6 @@ judge-requires c κs =
       subst (λ (n : ℕ). n ≤ setWidth) (sym (loss .ensures .0)) (omega (arith, pre .within .symbols-to)),
       subst (λ (n : ℕ). SetsWithin n (has (numeral (loss .result .survivors))) (has (numeral (loss .result .wanted))) (loss .result .origin)) (sym (loss .ensures .0))
           (sets-by-code layout disks list edition sets (numeral (loss .result .survivors)) (numeral (loss .result .wanted)) (loss .ensures .1 .0) (loss .ensures .1 .1 .0) (loss .ensures .1 .1 .1)),
-      pre .steps-few,
       start .pre .1,
     )
 

@@ -44,7 +44,7 @@ returns c =
     found (args .steps .now) (args .from) (args .count) (args .target) (loop .sources) (loop .number) (loop .inv)
 
 step-at-requires : tie.Need-step-at-requires Inv-loop μ-loop
-step-at-requires c κs = (omega arith, omega (arith, c .before .before .before .before .before .before .pre .2))
+step-at-requires c κs = record { few = omega arith; room = omega (arith, c .before .before .before .before .before .before .pre .1 .room) }
 
 adds-other-requires : tie.Need-adds-other-requires Inv-loop μ-loop
 adds-other-requires c κs = tt

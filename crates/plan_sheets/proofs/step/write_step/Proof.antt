@@ -13,7 +13,7 @@ write-bytes-requires : tie.Need-write-bytes-requires
 write-bytes-requires c κs =
     let start = c .before .before .before .before .before in
     let names = subst (NamesBelow 256) (c .before .before .step .given .1) (start .pre .0) in
-    (omega arith, names, omega arith, omega arith, omega arith)
+    (omega arith, names, omega arith, start .pre .1)
 
 enum-known-step-2 : tie.Need-enum-known-step-2
 enum-known-step-2 c = c .match .keys2
@@ -22,7 +22,7 @@ write-bytes-requires-2 : tie.Need-write-bytes-requires-2
 write-bytes-requires-2 c κs =
     let start = c .before .before .before .before .before in
     let names = subst (NamesBelow 256) (c .before .before .step2 .given .1) (start .pre .0) in
-    (omega arith, names .0, names .1, omega arith, omega arith)
+    (omega arith, names .0, names .1, start .pre .1)
 
 enum-known-step-3 : tie.Need-enum-known-step-3
 enum-known-step-3 c = c .match .keys3
@@ -31,7 +31,7 @@ write-bytes-requires-3 : tie.Need-write-bytes-requires-3
 write-bytes-requires-3 c κs =
     let start = c .before .before .before .before .before in
     let names = subst (NamesBelow 256) (c .before .before .step3 .given .1) (start .pre .0) in
-    (omega arith, names .0, names .1, omega arith, omega arith)
+    (omega arith, names .0, names .1, start .pre .1)
 
 same-length : tie.Need-same-length
 same-length c = c .before .before .write-bytes .kept .1 .1 .1 .1 .0
