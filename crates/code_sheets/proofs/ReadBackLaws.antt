@@ -41,12 +41,12 @@ module _ (code : LinearCode) (within : WithinLimits code) where
   rowsOf-codeSheet : rowsOf (symbols code) (rowIn (codeSheet code)) ≡ code .rows
   rowsOf-codeSheet =
       ext-getD 0 (rowsOf (symbols code) (rowIn (codeSheet code))) (code .rows)
-      (length-rowsOf (rowIn (codeSheet code)) (symbols code) ∙ sym (within .rows-held))
+      (length-rowsOf (rowIn (codeSheet code)) (symbols code) (omega (arith, within .symbols-to)) ∙ sym (within .rows-held))
       (λ s b. at s (decLt s (symbols code)))
     where
       at : (s : ℕ) → Dec (s < symbols code) → getD (rowsOf (symbols code) (rowIn (codeSheet code))) s 0 ≡ getD (code .rows) s 0
       at s (yes l) =
-          getD-rowsOf (rowIn (codeSheet code)) (symbols code) s (omega arith) l
+          getD-rowsOf (rowIn (codeSheet code)) (symbols code) s l
           ∙ rowIn-codeSheet code s (omega arith) l
           (omega (arith, within .rows-below s, pow-mono {i = code .data_symbols} {j = 64} (within .data-to)))
       at s (no l) =

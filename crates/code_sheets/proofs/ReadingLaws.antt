@@ -193,7 +193,7 @@ code-within-limits sheet bytes e = subst WithinLimits (sym (reading-code sheet e
         below-if-no-high-bits (getD sheet 4 0) 64 (rowIn sheet s) (head .data-to)
         (lowFirst-below 8 (drop (sheetLength s) sheet) (λ i. subst (λ (b : ℕ). b < 256) (sym (getD-drop (sheetLength s) sheet i 0)) (bytes (sheetLength s + i))))
         (λ bit low high.
-        ap (λ (row : ℕ). has row bit) (sym (getD-rowsOf (rowIn sheet) count s (omega (arith, head)) h))
+        ap (λ (row : ℕ). has row bit) (sym (getD-rowsOf (rowIn sheet) count s h))
         ∙ sym (strayAt-high (codeIn sheet .rows) (getD sheet 4 0) s bit high low)
         ∙ none-if-firstFrom-behind (strayAt (codeIn sheet .rows) (getD sheet 4 0)) (count * 64) 0 (s * 64 + bit) (omega (arith, code-fine sheet e .1)) (omega arith) (omega arith))
 
@@ -207,8 +207,8 @@ code-within-limits sheet bytes e = subst WithinLimits (sym (reading-code sheet e
           symbols-to = head .symbols-to;
           data-from = head .data-from;
           data-to = head .data-to;
-          rows-held = length-rowsOf (rowIn sheet) count;
-          rows-below = rowsOf-below (rowIn sheet) (getD sheet 4 0) count (omega (arith, head)) row-below;
+          rows-held = length-rowsOf (rowIn sheet) count (omega (arith, head));
+          rows-below = rowsOf-below (rowIn sheet) count (getD sheet 4 0) row-below;
           rows-behind = λ s h. getD-rowsOf-behind (rowIn sheet) count s (omega (arith, head .symbols-are));
         }
 

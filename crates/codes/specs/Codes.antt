@@ -2,18 +2,16 @@
 use Prim.Native.Nat.{ℕ, _^_, _≤_, _<_}
 use mathlib.Core.Path.{_≡_}
 use mathlib.Core.List.{List}
-use mathlib.Core.Bool.{cond}
-use lib.Dec.{ltb}
-use Rattle.bits.specs.Numerals.{setWidth, numerals}
+use Rattle.bits.specs.Numerals.{setWidth, numerals, padded}
 use Rattle.bits.specs.Lists.{tabulate}
 use lib.ListN.{length, getD, take, replicate}
 use Rattle.codes.specs.declared.Code.{Code}
 use Rattle.codes.specs.declared.Layout.{Layout}
 use Rattle.codes.specs.Layouts.{symbolsOf}
 
--- The rows of so many symbols as a code holds them: row s of as many as an array has; those behind the last symbol are empty
+-- The rows of so many symbols as a code holds them: those behind the last symbol are empty
 unfoldable pub rowsOf : ℕ → (ℕ → ℕ) → List ℕ
-rowsOf count row = tabulate setWidth (λ s. cond (ltb s count) (row s) 0)
+rowsOf count row = padded (tabulate count row)
 
 -- A code by the numbers of its rows, whatever holds them: what is said of a code is said of this
 pub record LinearCode : Type 0 where

@@ -112,7 +112,7 @@ module _ (family : Family) (h : listed family ≡ true) where
         symbols-to = symbols-to family h;
         data-from = dataSymbols-from family h;
         data-to = dataSymbols-to family h;
-        rows-held = length-rowsOf (familyRow family) count;
-        rows-below = rowsOf-below (familyRow family) (dataSymbols family) count (omega (arith, symbols-to family h)) (λ s l. familyRow-below s);
+        rows-held = length-rowsOf (familyRow family) count (omega (arith, symbols-to family h));
+        rows-below = rowsOf-below (familyRow family) count (dataSymbols family) (λ s l. familyRow-below s);
         rows-behind = getD-rowsOf-behind (familyRow family) count;
       }

@@ -130,11 +130,8 @@ module _ (family : Family) (s k disk row : ℕ) (e : k ≡ dataDisks family) (f 
       ∙ sym (simp (le-ltb (diskOf (familyLayout family) s) (dataDisks family) (rw (e, f) at l)))
 
 -- The code is its layout, K and the rows of all symbols
-pub familyCode-of-parts : (family : Family) (layout : Layout) (symbols count reached : ℕ) (rows : List ℕ) → layout ≡ familyLayout family
-    → symbols ≡ symbolsOf layout → count ≡ dataSymbols family → reached ≤ symbols → symbols ≤ reached
-    → rows ≡ rowsOf reached (familyRow family)
+pub familyCode-of-parts : (family : Family) (layout : Layout) (symbols count : ℕ) (rows : List ℕ) → layout ≡ familyLayout family
+    → symbols ≡ symbolsOf layout → count ≡ dataSymbols family → rows ≡ rowsOf symbols (familyRow family)
     → _≡_ {A = LinearCode} record { layout = layout; data_symbols = count; rows = rows } (familyCode family)
 unfolding familyCode
-familyCode-of-parts family layout symbols count reached rows e f g a b h =
-    let end : reached ≡ symbolsOf (familyLayout family) = omega (arith, f ∙ ap symbolsOf e) in
-    rw (h, end, e, g)
+familyCode-of-parts family layout symbols count rows e f g h = rw (h, f, e, g)

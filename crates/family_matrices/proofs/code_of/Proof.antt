@@ -2,12 +2,12 @@
 use mathlib.Core.Path.{_≡_, ap, ap₂, _∙_}
 use Prim.Native.Nat.{_-_, _≤_}
 use native.Mathlib.Omega.{arith}
-use lib.ListN.{set}
+use Rattle.bits.specs.Lists.{tabulate}
 use Rattle.bits.specs.Numerals.{setWidth, numerals}
 use Rattle.bits.proofs.NumeralLaws.{numerals-set}
-use Rattle.codes.specs.Codes.{rowsOf}
+use Rattle.bits.proofs.PaddedLaws.{storedTo}
 use Rattle.codes.specs.Layouts.{symbolsOf, firstSymbol}
-use Rattle.codes.proofs.RowLaws.{rowsOf-none, rowsOf-more}
+use Rattle.codes.proofs.RowLaws.{rows-more, rows-all}
 use Rattle.family_codes.specs.Families.{familyLayout, familyRow}
 use Rattle.family_codes.proofs.FamilyLaws.{layout-bounds, symbols-to}
 use Rattle.family_matrices.proofs.MatrixLaws.{familyCode-of-parts}
@@ -16,7 +16,7 @@ use Rattle.family_matrices.proofs.code_of.Tie as tie
 
 abbrev Inv-loop : tie.InvT-loop
 Inv-loop family layout symbols data-symbols rows₀ symbol₀ rows symbol =
-    (symbol ≤ symbols) × (symbols ≡ symbolsOf (familyLayout family)) × (symbols ≤ setWidth) × (numerals rows ≡ rowsOf symbol (familyRow family))
+    (symbol ≤ symbols) × (symbols ≡ symbolsOf (familyLayout family)) × (symbols ≤ setWidth) × (numerals rows ≡ storedTo (tabulate symbols (familyRow family)) symbol)
 
 abbrev μ-loop : tie.MeasureT-loop
 μ-loop family layout symbols data-symbols rows₀ symbol₀ rows symbol = symbols - symbol
@@ -49,7 +49,7 @@ loop-holds c =
       omega arith,
       symbols,
       omega (arith, symbols, symbols-to (start .args .family) (start .pre)),
-      c .empty-sets .ensures ∙ rowsOf-none (familyRow (start .args .family)),
+      c .empty-sets .ensures,
     )
 
 row-of-requires : tie.Need-row-of-requires Inv-loop μ-loop
@@ -78,8 +78,7 @@ loop-again c =
       turn .loop .inv .1,
       turn .loop .inv .2,
       numerals-set rows symbol (c .row-of .result)
-          ∙ ap (set (numerals rows) symbol) (c .row-of .ensures)
-          ∙ rowsOf-more (familyRow family) symbol (numerals rows) (omega arith) (turn .loop .inv .3),
+          ∙ rows-more (familyRow family) _ (turn .loop .inv .2) symbol (turn .loop .inv .3) (omega arith) (c .row-of .ensures),
     )
 
 returns : tie.Need-returns Inv-loop μ-loop
@@ -88,8 +87,8 @@ returns c =
     let sized = c .before .before .before in
     let laid = sized .before .before .before in
     let data-symbols = sized .first-symbol .ensures ∙ ap₂ firstSymbol (laid .layout-of .ensures) (sized .before .data-disks-of .ensures) in
-    familyCode-of-parts (laid .before .args .family) _ _ _ _ _ (laid .layout-of .ensures) (sized .before .before .symbols .ensures) data-symbols
-    (end .inv .0) (omega arith) (end .inv .3)
+    familyCode-of-parts (laid .before .args .family) _ _ _ _ (laid .layout-of .ensures) (sized .before .before .symbols .ensures) data-symbols
+    (rows-all (familyRow (laid .before .args .family)) _ (end .inv .2) (end .symbol) (end .inv .3) (omega arith))
 
 pub code-of-spec : {M : Type 1} → statement M
 code-of-spec =

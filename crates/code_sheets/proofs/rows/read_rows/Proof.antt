@@ -3,18 +3,19 @@ use Prim.Native.Nat.{ℕ, _-_, _≤_}
 use mathlib.Core.List.{List}
 use mathlib.Core.Path.{_≡_, _∙_, ap}
 use native.Mathlib.Omega.{arith}
-use lib.ListN.{set, take, drop}
+use lib.ListN.{take, drop}
+use Rattle.bits.specs.Lists.{tabulate}
 use Rattle.bits.specs.Numerals.{numerals}
 use Rattle.bits.proofs.NumeralLaws.{numerals-set}
-use Rattle.codes.specs.Codes.{rowsOf}
-use Rattle.codes.proofs.RowLaws.{rowsOf-none, rowsOf-more}
+use Rattle.bits.proofs.PaddedLaws.{storedTo}
+use Rattle.codes.proofs.RowLaws.{rows-more, rows-all}
 use Rattle.sheets.specs.Bytes.{lowFirst}
 use Rattle.code_sheets.specs.CodeSheets.{rowIn, sheetLength}
 use Rattle.code_sheets.proofs.rows.read_rows.Statement.{statement}
 use Rattle.code_sheets.proofs.rows.read_rows.Tie as tie
 
 abbrev Inv-loop : tie.InvT-loop
-Inv-loop sheet symbols rows₀ s₀ rows s = (s ≤ symbols) × (numerals rows ≡ rowsOf s (rowIn sheet))
+Inv-loop sheet symbols rows₀ s₀ rows s = (s ≤ symbols) × (numerals rows ≡ storedTo (tabulate symbols (rowIn sheet)) s)
 
 abbrev μ-loop : tie.MeasureT-loop
 μ-loop sheet symbols rows₀ s₀ rows s = symbols - s
@@ -23,7 +24,7 @@ empty-sets-requires : tie.Need-empty-sets-requires Inv-loop μ-loop
 empty-sets-requires c κs = tt
 
 loop-holds : tie.Need-loop-holds Inv-loop μ-loop
-loop-holds c = (omega arith, c .empty-sets .ensures ∙ rowsOf-none (rowIn (c .before .before .args .sheet .now)))
+loop-holds c = (omega arith, c .empty-sets .ensures)
 
 sheet-length-requires : tie.Need-sheet-length-requires Inv-loop μ-loop
 sheet-length-requires c κs = omega arith
@@ -51,20 +52,18 @@ row-read sheet s place e f = f ∙ ap (λ (at : ℕ). lowFirst (take 8 (drop at 
 loop-again : tie.Need-loop-again Inv-loop μ-loop
 loop-again c =
     let turn = c .before .before .before in
-    let sheet = turn .before .before .before .args .sheet .now in
-    let rows = numerals (turn .loop .rows) in
+    let start = turn .before .before .before in
+    let sheet = start .args .sheet .now in
     let s = turn .loop .s in (
       omega arith,
       numerals-set (turn .loop .rows) s (c .row-at .result)
-          ∙ ap (set rows s) (row-read sheet s _ (c .before .sheet-length .ensures) (c .row-at .ensures))
-          ∙ rowsOf-more (rowIn sheet) s rows (omega arith) (turn .loop .inv .1),
+          ∙ rows-more (rowIn sheet) (start .args .symbols) (start .pre .0) s (turn .loop .inv .1) (omega arith) (row-read sheet s _ (c .before .sheet-length .ensures) (c .row-at .ensures)),
     )
 
 returns : tie.Need-returns Inv-loop μ-loop
 returns c =
     let start = c .before .before .before .before in
-    let all : c .before .loop .s ≡ start .args .symbols = omega arith in
-    c .before .loop .inv .1 ∙ ap (λ (count : ℕ). rowsOf count (rowIn (start .args .sheet .now))) all
+    rows-all (rowIn (start .args .sheet .now)) (start .args .symbols) (start .pre .0) (c .before .loop .s) (c .before .loop .inv .1) (omega arith)
 
 pub read-rows-spec : {M : Type 1} → statement M
 read-rows-spec =
