@@ -34,7 +34,7 @@ pub fn first_stray(rows: BitSets, symbols: usize, data_symbols: usize) -> usize
     let mut place = symbols * 64;
     'search: while row < symbols {
         let bits = rows[row];
-        let mut bit = lowest_from(bits, data_symbols); // 64 in a row without a stray bit
+        let mut bit = lowest_from(bits, data_symbols); // no bit of the row, where none is stray
         while bit < 64 {
             if has(bits, bit) {
                 place = row * 64 + bit;

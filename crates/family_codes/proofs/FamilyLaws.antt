@@ -9,6 +9,7 @@ use lib.Bits.{bitXor, xor-lt}
 use lib.Dec.{eqb, leb}
 use lib.Pow.{pow-pos}
 use borrow.Author.Tests.{leb-true, eqb-true}
+use Rattle.bits.specs.Numerals.{setWidth}
 use Rattle.codes.specs.Layouts.{symbolsOf, firstSymbol, heightOf, diskOf}
 use Rattle.codes.specs.declared.Layout.{Layout}
 use Rattle.codes.proofs.LayoutLaws.{strips-in-order, strip-within, on-disk-between, on-own-disk, disk-of-below}
@@ -196,7 +197,7 @@ module _ (family : Family) (h : listed family ≡ true) where
       record { disks-from = omega arith; disks-to = omega arith; height-from = omega arith; height-to = omega arith }
 
   -- Row j of a data disk fits a set
-  pub dataSymbol-fits : (c j : ℕ) → c < dataDisks family → j < familyHeight family → firstSymbol (familyLayout family) c + j < 64
+  pub dataSymbol-fits : (c j : ℕ) → c < dataDisks family → j < familyHeight family → firstSymbol (familyLayout family) c + j < setWidth
   dataSymbol-fits c j l m = omega (arith, dataSymbol-below family c j l m, dataSymbols-to)
 
 -- ------------------------------------------------------------------

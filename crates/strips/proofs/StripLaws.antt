@@ -49,6 +49,11 @@ strip-ends-within {read} {disk} {size} {stripeBytes} {first} {height} fits e f =
     let within : first + height ≤ symbolsOf (read .code .layout) = omega (arith, strip-within (read .code .layout) disk (fits .disk-below)) in
     omega (arith, mul-le-mul-right {m = first + height} size within)
 
+-- On a refusal nothing is shown, and the part of no bytes shows it
+pub nowhere-shows-nothing : {slice shown : List ℕ} {verdict : Outcome} {refusal : Numbered} → [] ≡ shown → verdict ≡ Refused refusal → Shows nowhere slice shown verdict
+nowhere-shows-nothing none refused =
+    record { within = omega arith; bytes = none; exactly = (λ some. absurd (omega arith), λ fine. absurd (refused-is-not-fine (sym refused ∙ fine))) }
+
 module _ (sheet stripe : List ℕ) (disk size : ℕ) (read : CodeRead) (from : ReadFrom sheet read) where
   -- The verdict is the definition's
   pub strip-verdict-is : {answer : Outcome} → answer ≡ andThen (read .verdict) (stripFaults (read .code .layout) disk size (length stripe))
@@ -83,12 +88,7 @@ module _ (sheet stripe : List ℕ) (disk size : ℕ) (read : CodeRead) (from : R
     -- Refused: the part of no bytes
     pub strip-refused : {part : Part} {refusal : Numbered} → part ≡ nowhere → answer ≡ Refused refusal → Placed part
     strip-refused e told =
-        let shows : Shows nowhere stripe (stripShown sheet disk size stripe) (stripVerdict sheet disk size (length stripe)) = record {
-          within = omega arith;
-          bytes = shown-by-verdict told;
-          exactly = (λ some. absurd (omega arith), λ fine. absurd (refused-is-not-fine (sym told ∙ strip-verdict-is tested ∙ fine)));
-        } in
-        subst Placed (sym e) (place-by-verdict told, shows)
+        subst Placed (sym e) (place-by-verdict told, nowhere-shows-nothing (shown-by-verdict told) (sym (strip-verdict-is tested) ∙ told))
 
     -- Fine: the disk's symbols from its first on, and there are some
     pub strip-placed : {first height : ℕ} → first ≡ firstSymbol (read .code .layout) disk → height ≡ heightOf (read .code .layout) disk

@@ -3,7 +3,7 @@ use mathlib.Core.Path.{_≡_, refl, sym, ap, ap₂, subst, _∙_}
 use mathlib.Core.Bool.{Bool, true, false, cond}
 use mathlib.Core.Logic.{_↔_}
 use mathlib.Core.List.{List, [], _∷_}
-use Prim.Native.Nat.{ℕ, _+_, _-_, _*_, _≤_, _<_}
+use Prim.Native.Nat.{ℕ, _-_, _*_, _≤_, _<_}
 use native.Mathlib.Omega.{arith}
 use lib.ListN.{length}
 use borrow.Author.Tests.{leb-false, not-false, eqb-true, eq-eqb, ne-eqb}
@@ -11,13 +11,13 @@ use Rattle.codes.proofs.LayoutLaws.{on-disk-of, on-disk-between}
 use Rattle.codes.specs.Layouts.{symbolsOf, firstSymbol, heightOf, diskOf, onDisk}
 use Rattle.codes.specs.Lengths.{lengthFault}
 use Rattle.gf2.proofs.SymbolLaws.{symbol-ends-within}
-use Rattle.gf2.specs.Stripes.{symbol}
+use Rattle.gf2.specs.Stripes.{symbol, SymbolWithin}
 use Rattle.refusals.specs.Orders.{_gets_, andThen, ifFine, Outcome, Fine, Refused}
 use Rattle.refusals.specs.Refusals.{Numbered, _at_}
-use Rattle.refusals.proofs.OrderLaws.{fine-means-none-holds, refused-is-not-fine}
+use Rattle.refusals.proofs.OrderLaws.{fine-means-none-holds}
 use Rattle.code_sheets.specs.CodeReading.{CodeRead}
 use Rattle.code_sheets.proofs.ReadingLaws.{ReadFrom}
-use Rattle.strips.proofs.StripLaws.{StripFits, fine-strip-fits}
+use Rattle.strips.proofs.StripLaws.{StripFits, fine-strip-fits, nowhere-shows-nothing}
 use Rattle.strips.specs.Places.{sliceOf, nowhere, Shows}
 use Rattle.strips.specs.Strips.{stripFaults}
 use Rattle.strips.specs.declared.Part.{Part}
@@ -48,7 +48,7 @@ fine-look-up-fits sheet read from disk size stripeBytes spareBytes wanted tested
 
 module _ {read : CodeRead} {disk size stripeBytes spareBytes wanted : ℕ} (fits : LookUpFits read disk size stripeBytes spareBytes wanted) where
   -- A symbol of the stripe ends within it
-  pub survivor-ends-within : (wanted + 1) * size ≤ stripeBytes
+  pub survivor-ends-within : SymbolWithin size stripeBytes wanted
   survivor-ends-within = omega (arith, symbol-ends-within wanted (symbolsOf (read .code .layout)) size (fits .wanted-below))
 
   -- A symbol lies on the disk exactly if its own disk, as found, is that one
@@ -66,7 +66,7 @@ module _ {read : CodeRead} {disk size stripeBytes spareBytes wanted : ℕ} (fits
 
   -- It ends within the spare strip
   pub lost-ends-within : {place first : ℕ} → place ≡ diskOf (read .code .layout) wanted → place ≡ disk
-      → first ≡ firstSymbol (read .code .layout) disk → (wanted - first + 1) * size ≤ spareBytes
+      → first ≡ firstSymbol (read .code .layout) disk → SymbolWithin size spareBytes (wanted - first)
   lost-ends-within {place} {first} e f g =
       let between = on-disk-between (read .code .layout) disk wanted (on-disk-as-found e (eq-eqb place disk f)) in
       omega (arith, symbol-ends-within (wanted - first) (heightOf (read .code .layout) disk) size (omega arith))
@@ -110,12 +110,7 @@ module _ (sheet stripe spare : List ℕ) (disk size wanted : ℕ) (read : CodeRe
       -- Refused: the part of no bytes
       pub look-up-refused : {part : Part} {refusal : Numbered} → part ≡ nowhere → answer ≡ Refused refusal → Placed part
       look-up-refused e told =
-          let shows : Shows nowhere stripe (symbolShown sheet disk size stripe spare wanted) (lookUpVerdict sheet disk size (length stripe) (length spare) wanted) = record {
-            within = omega arith;
-            bytes = shown-by-verdict told;
-            exactly = (λ some. absurd (omega arith), λ fine. absurd (refused-is-not-fine (sym told ∙ look-up-verdict-is tested ∙ fine)));
-          } in
-          subst Placed (sym e) (place-by-verdict told, shows)
+          subst Placed (sym e) (place-by-verdict told, nowhere-shows-nothing (shown-by-verdict told) (sym (look-up-verdict-is tested) ∙ told))
 
       module _ (told : answer ≡ Fine) where
         fits : LookUpFits read disk size (length stripe) (length spare) wanted

@@ -1,6 +1,7 @@
 -- `family_entries::identity_row` meets its contract: the identity row of a data symbol has its one bit. Assumes nothing.
 use mathlib.Core.Path.{_≡_, ap, _∙_}
 use native.Mathlib.Omega.{arith}
+use Rattle.bits.specs.Numerals.{setWidth}
 use Rattle.codes.specs.Layouts.{firstSymbol}
 use Rattle.codes.specs.declared.Layout.{Layout}
 use Rattle.family_codes.specs.Families.{familyLayout}
@@ -19,7 +20,7 @@ first-symbol-requires c κs =
     (omega (arith, c .before .pre .1), omega arith, omega arith)
 
 -- The data symbol fits a set
-symbol-fits : (c : tie.After-first-symbol) → c .first-symbol .result + c .before .before .args .row < 64
+symbol-fits : (c : tie.After-first-symbol) → c .first-symbol .result + c .before .before .args .row < setWidth
 symbol-fits c =
     let start = c .before .before in
     let a = start .args in
