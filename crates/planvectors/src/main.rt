@@ -22,8 +22,8 @@ ghost use lib.ListN.{length};
 use bits::low_word;
 use checker::Checked;
 use libc::STDIN_FILENO;
+use lists::is_same;
 use planner::Planned;
-use records::byte_at;
 use records::contains;
 use records::end_line;
 use records::fill;
@@ -38,12 +38,12 @@ use records::print_refusal;
 use records::print_word;
 use records::product;
 use records::rest_at;
-use records::same;
 use records::same_behind;
-use records::short_number_at;
 use records::spread;
 use refusals::Refusal;
 use refusals::Verdict;
+use sheets::byte_at;
+use sheets::two_bytes_at;
 
 // The most bytes that a record, a buffer or a stripe has.
 const ROOM: usize = 4096;
@@ -59,12 +59,12 @@ fn kind_of(record: &[u8]) -> usize {
 }
 
 fn list_in(record: &[u8]) -> &[u8] {
-    front_of(rest_at(record, 16), short_number_at(record, 14))
+    front_of(rest_at(record, 16), two_bytes_at(record, 14))
 }
 
 // The bytes after the list: the asked disks, where the record names a set, and the code sheet.
 fn behind_list(record: &[u8]) -> &[u8] {
-    rest_at(rest_at(record, 16), short_number_at(record, 14))
+    rest_at(rest_at(record, 16), two_bytes_at(record, 14))
 }
 
 // How many disks of a set a record names.
@@ -139,8 +139,8 @@ fn lists_asked(record: &[u8], disks: &[u8], plan: &[u8]) -> bool {
     let listed = byte_at(plan, 6);
     (byte_at(plan, 0) == 5)
         & (byte_at(plan, 1) == 3)
-        & same(list_at(plan, 6), disks)
-        & same(list_at(plan, 7 + listed), list_in(record))
+        & is_same(list_at(plan, 6), disks)
+        & is_same(list_at(plan, 7 + listed), list_in(record))
 }
 
 // Whether a sheet is of the edition asked for, with the lists that planning was given.
@@ -148,7 +148,7 @@ fn wants_asked(record: &[u8], disks: &[u8], plan: &[u8]) -> bool {
     let edition = byte_at(plan, 1);
     match kind_of(record) {
         0 => edition == 1,
-        1 => (edition == 2) & same(list_at(plan, 7), list_in(record)),
+        1 => (edition == 2) & is_same(list_at(plan, 7), list_in(record)),
         _ => lists_asked(record, disks, plan),
     }
 }
@@ -193,7 +193,7 @@ fn gives_back(
     whole: &mut [u8],
 ) -> bool {
     ruin(record, disks, size, stripe, whole);
-    rebuilds(sheet_in(record), disks, plan, size, stripe) & same(stripe, whole)
+    rebuilds(sheet_in(record), disks, plan, size, stripe) & is_same(stripe, whole)
 }
 
 // Whether a plan restores the stripe of these data, for which there are two places.
@@ -232,11 +232,19 @@ fn restores(record: &[u8], disks: &[u8], plan: &[u8]) -> bool {
     )
 }
 
-// Whether a stripe of one byte a symbol is zero in every surviving symbol.
-fn agrees_on_survivors(record: &[u8], disks: &[u8], stripe: &[u8]) -> bool {
+// Whether a symbol is wanted, or else whether it survives.
+fn is_chosen(record: &[u8], disks: &[u8], symbol: usize, wanted: bool) -> bool {
+    if wanted {
+        return is_wanted(record, disks, symbol);
+    }
+    !is_lost(record, disks, symbol)
+}
+
+// Whether a stripe of one byte a symbol is zero in every wanted symbol, or else in every surviving one.
+fn is_zero_on(record: &[u8], disks: &[u8], stripe: &[u8], wanted: bool) -> bool {
     let mut symbol = 0;
     while symbol < stripe.len() {
-        if stripe[symbol] != 0 && !is_lost(record, disks, symbol) {
+        if stripe[symbol] != 0 && is_chosen(record, disks, symbol, wanted) {
             return false;
         }
         symbol += 1;
@@ -244,23 +252,11 @@ fn agrees_on_survivors(record: &[u8], disks: &[u8], stripe: &[u8]) -> bool {
     true
 }
 
-// Whether a stripe of one byte a symbol is not zero in some wanted symbol.
-fn loses_wanted(record: &[u8], disks: &[u8], stripe: &[u8]) -> bool {
-    let mut symbol = 0;
-    while symbol < stripe.len() {
-        if stripe[symbol] != 0 && is_wanted(record, disks, symbol) {
-            return true;
-        }
-        symbol += 1;
-    }
-    false
-}
-
 // Whether the stripe of these data is zero on every surviving symbol and not in every wanted one.
 fn shows_loss(record: &[u8], disks: &[u8], contents: &[u8], stripe: &mut [u8]) -> bool {
     encodes(sheet_in(record), 1, contents, stripe)
-        & agrees_on_survivors(record, disks, stripe)
-        & loses_wanted(record, disks, stripe)
+        & is_zero_on(record, disks, stripe, false)
+        & !is_zero_on(record, disks, stripe, true)
 }
 
 // Whether a pattern has bits below K alone, and a stripe that shows that the wanted symbols can't all be rebuilt.
@@ -322,9 +318,13 @@ fn print_answer(record: &[u8], disks: &[u8], planned: Planned, buffer: &[u8], co
         ),
         Planned::Pattern { pattern } => {
             let number = low_word(pattern);
-            print_pattern(number, same(buffer, copy), is_good(record, disks, number))
+            print_pattern(
+                number,
+                is_same(buffer, copy),
+                is_good(record, disks, number),
+            )
         }
-        Planned::Refused(refusal) => print_refused(refusal, same(buffer, copy)),
+        Planned::Refused(refusal) => print_refused(refusal, is_same(buffer, copy)),
     }
 }
 
@@ -345,7 +345,7 @@ fn ask(record: &[u8], disk: usize, disks: &[u8], buffer: &mut [u8], copy: &[u8])
 
 // Asks about a disk or a set of disks, with a buffer of the record's length. What is answered for one disk is judged by the set of it alone.
 fn ask_about(record: &[u8], disk: usize, disks: &[u8]) {
-    let length = short_number_at(record, 2);
+    let length = two_bytes_at(record, 2);
     if length > ROOM {
         return;
     }
@@ -412,7 +412,7 @@ fn next_record() -> bool {
         return false;
     }
     let mut place = room();
-    answer_next(&mut place, short_number_at(&head, 0))
+    answer_next(&mut place, two_bytes_at(&head, 0))
 }
 
 fn main() {

@@ -5,34 +5,19 @@ ghost use mathlib.Core.Path.{_≡_};
 ghost use Prim.Native.Nat.{_≤_, _<_};
 ghost use lib.ListN.{length};
 use libc::STDOUT_FILENO;
+use lists::is_same;
 use refusals::Refusal;
-
-// The byte at a place of a record, and 0 behind its end.
-pub fn byte_at(record: &[u8], at: usize) -> usize
-    ensures { λ r. ⌜ r < 256 ⌝ }
-{
-    if at < record.len() {
-        return record[at] as usize;
-    }
-    0
-}
-
-// The number in the 2 bytes at a place of a record.
-pub fn short_number_at(record: &[u8], at: usize) -> usize
-    requires { ⌜ at ≤ 1000 ⌝ }
-    ensures { λ r. ⌜ r < 65536 ⌝ }
-{
-    byte_at(record, at) + 256 * byte_at(record, at + 1)
-}
+use sheets::byte_at;
+use sheets::two_bytes_at;
 
 // The number in the 8 bytes at a place of a record.
 pub fn number_at(record: &[u8], at: usize) -> usize
     requires { ⌜ at ≤ 900 ⌝ }
 {
-    short_number_at(record, at)
-        + 65536 * short_number_at(record, at + 2)
-        + 4294967296 * short_number_at(record, at + 4)
-        + 281474976710656 * short_number_at(record, at + 6)
+    two_bytes_at(record, at)
+        + 65536 * two_bytes_at(record, at + 2)
+        + 4294967296 * two_bytes_at(record, at + 4)
+        + 281474976710656 * two_bytes_at(record, at + 6)
 }
 
 // The bytes from a place on, or none where the place is behind the end.
@@ -125,30 +110,15 @@ pub fn digest(bytes: &[u8]) -> usize {
     sum
 }
 
-// Whether two slices have the same length and the same bytes.
-pub fn same(one: &[u8], other: &[u8]) -> bool {
-    if one.len() != other.len() {
-        return false;
-    }
-    let mut i = 0;
-    while i < one.len() {
-        if one[i] != other[i] {
-            return false;
-        }
-        i += 1;
-    }
-    true
-}
-
 // Whether two slices have the same bytes from a place on.
 pub fn same_behind(one: &[u8], other: &[u8], at: usize) -> bool {
-    same(rest_at(one, at), rest_at(other, at))
+    is_same(rest_at(one, at), rest_at(other, at))
 }
 
 // Whether bytes, at most 64, are all zero.
 pub fn is_zero(bytes: &[u8]) -> bool {
     let zeros = [0u8; 64];
-    same(bytes, front_of(&zeros, bytes.len()))
+    is_same(bytes, front_of(&zeros, bytes.len()))
 }
 
 // Whether a number is among bytes.

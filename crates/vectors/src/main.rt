@@ -17,6 +17,7 @@ ghost use mathlib.Core.Path.{_≡_};
 ghost use Prim.Native.Nat.{_≤_, _<_};
 ghost use lib.ListN.{length};
 ghost use Rattle.bits.specs.Numerals.{setWidth};
+ghost use Rattle.codes.specs.Codes.{linear, WithinLimits};
 use bits::BitSets;
 use bits::low_word;
 use checker::Checked;
@@ -25,7 +26,6 @@ use families::Family;
 use families::Written;
 use libc::STDIN_FILENO;
 use libc::STDOUT_FILENO;
-use records::byte_at;
 use records::digest;
 use records::end_line;
 use records::fill;
@@ -37,8 +37,9 @@ use records::print_number;
 use records::print_refusal;
 use records::put_over;
 use records::rest_at;
-use records::short_number_at;
 use refusals::Verdict;
+use sheets::byte_at;
+use sheets::two_bytes_at;
 
 // The most bytes that a record has.
 const RECORD: usize = 8192;
@@ -91,23 +92,6 @@ fn print_part(part: &[u8]) {
     print_digest(part);
 }
 
-// N of a code within the limits; 64 of any other.
-fn row_count(disks: usize, height: usize) -> usize
-    ensures { λ r. ⌜ r ≤ 64 ⌝ }
-{
-    if disks > 64 {
-        return 64;
-    }
-    if height > 32 {
-        return 64;
-    }
-    let symbols = disks * height;
-    if symbols > 64 {
-        return 64;
-    }
-    symbols
-}
-
 fn print_rows(rows: BitSets, count: usize)
     requires { ⌜ count ≤ setWidth ⌝ }
 {
@@ -119,14 +103,16 @@ fn print_rows(rows: BitSets, count: usize)
     }
 }
 
-fn print_code(code: Code) {
+fn print_code(code: Code)
+    requires { ⌜ WithinLimits (linear code) ⌝ }
+{
     let layout = code.layout;
     let rows = code.rows;
     print(b"code");
     print_number(layout.disks as u64);
     print_number(layout.height as u64);
     print_number(code.data_symbols as u64);
-    print_rows(rows, row_count(layout.disks, layout.height));
+    print_rows(rows, layout.symbols());
 }
 
 fn read(record: &[u8]) {
@@ -371,7 +357,7 @@ fn next_record() -> bool {
         return false;
     }
     let mut room = record_room();
-    record_in(&mut room, short_number_at(&head, 0))
+    record_in(&mut room, two_bytes_at(&head, 0))
 }
 
 fn main() {

@@ -12,8 +12,8 @@ sheet-in-requires c κs = tt
 rebuilds-requires : tie.Need-rebuilds-requires
 rebuilds-requires c κs = tt
 
-same-requires : tie.Need-same-requires
-same-requires c κs = tt
+is-same-requires : tie.Need-is-same-requires
+is-same-requires c κs = tt
 
 same-length : tie.Need-same-length
 same-length c = omega arith
@@ -31,7 +31,7 @@ gives-back-spec =
     ruin-requires
     sheet-in-requires
     rebuilds-requires
-    same-requires
+    is-same-requires
     same-length
     same-length-2
     returns)

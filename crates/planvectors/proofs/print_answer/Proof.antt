@@ -21,8 +21,8 @@ enum-known-planned-2 c = search needs
 low-word-requires : tie.Need-low-word-requires
 low-word-requires c κs = tt
 
-same-requires : tie.Need-same-requires
-same-requires c κs = tt
+is-same-requires : tie.Need-is-same-requires
+is-same-requires c κs = tt
 
 is-good-requires : tie.Need-is-good-requires
 is-good-requires c κs = tt
@@ -33,8 +33,8 @@ print-pattern-requires c κs = tt
 enum-known-planned-3 : tie.Need-enum-known-planned-3
 enum-known-planned-3 c = search needs
 
-same-requires-2 : tie.Need-same-requires-2
-same-requires-2 c κs = tt
+is-same-requires-2 : tie.Need-is-same-requires-2
+is-same-requires-2 c κs = tt
 
 print-refused-requires : tie.Need-print-refused-requires
 print-refused-requires c κs = tt
@@ -58,11 +58,11 @@ print-answer-spec =
     print-plan-requires
     enum-known-planned-2
     low-word-requires
-    same-requires
+    is-same-requires
     is-good-requires
     print-pattern-requires
     enum-known-planned-3
-    same-requires-2
+    is-same-requires-2
     print-refused-requires
     returns
     returns-2
