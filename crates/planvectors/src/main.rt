@@ -26,7 +26,7 @@ use lists::is_same;
 use planner::Planned;
 use records::contains;
 use records::end_line;
-use records::fill;
+use records::fill_part;
 use records::filled;
 use records::front_of;
 use records::is_zero;
@@ -167,9 +167,9 @@ fn ruin_symbol(
     }
     let start = product(symbol, size);
     let end = start + product(1, size);
-    fill(stripe, start, end, start);
+    fill_part(stripe, start, end, start);
     if !is_wanted(record, disks, symbol) {
-        fill(whole, start, end, start);
+        fill_part(whole, start, end, start);
     }
 }
 

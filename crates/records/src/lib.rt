@@ -3,7 +3,10 @@
 // All numbers of a record have their low byte first.
 ghost use mathlib.Core.Path.{_≡_};
 ghost use Prim.Native.Nat.{_≤_, _<_};
-ghost use lib.ListN.{length};
+ghost use lib.ListN.{length, take, drop, replicate};
+ghost use Rattle.lists.specs.Lists.{listed, same};
+ghost use Rattle.records.specs.Records.{numberAt, front, smallProduct, seeded, filledPart, digestFrom, lowBits};
+ghost use Rattle.sheets.specs.Buffers.{atFront};
 use libc::STDOUT_FILENO;
 use lists::is_same;
 use refusals::Refusal;
@@ -13,6 +16,7 @@ use sheets::two_bytes_at;
 // The number in the 8 bytes at a place of a record.
 pub fn number_at(record: &[u8], at: usize) -> usize
     requires { ⌜ at ≤ 900 ⌝ }
+    ensures { λ r. ⌜ r ≡ numberAt (now («record» .entry)) at ⌝ }
 {
     two_bytes_at(record, at)
         + 65536 * two_bytes_at(record, at + 2)
@@ -21,7 +25,9 @@ pub fn number_at(record: &[u8], at: usize) -> usize
 }
 
 // The bytes from a place on, or none where the place is behind the end.
-pub fn rest_at(bytes: &[u8], at: usize) -> &[u8] {
+pub fn rest_at(bytes: &[u8], at: usize) -> &[u8]
+    ensures { λ r. ⌜ now r ≡ drop at (now (bytes .entry)) ⌝ }
+{
     if at <= bytes.len() {
         return &bytes[at..];
     }
@@ -29,16 +35,18 @@ pub fn rest_at(bytes: &[u8], at: usize) -> &[u8] {
 }
 
 // The first bytes, as many as asked, or none where there are fewer.
-pub fn front_of(bytes: &[u8], length: usize) -> &[u8] {
-    if length <= bytes.len() {
-        return &bytes[0..length];
+pub fn front_of(bytes: &[u8], count: usize) -> &[u8]
+    ensures { λ r. ⌜ now r ≡ front count (now (bytes .entry)) ⌝ }
+{
+    if count <= bytes.len() {
+        return &bytes[0..count];
     }
     &bytes[0..0]
 }
 
-// The product of two numbers where they and it are at most 4096, and 0 otherwise.
+// The product of two numbers where it is at most 4096, and 0 otherwise.
 pub fn product(one: usize, other: usize) -> usize
-    ensures { λ r. ⌜ r ≤ 4096 ⌝ }
+    ensures { λ r. ⌜ (r ≡ smallProduct one other) × (r ≤ 4096) ⌝ }
 {
     if one > 4096 {
         return 0;
@@ -53,23 +61,36 @@ pub fn product(one: usize, other: usize) -> usize
     whole
 }
 
-// Fills the bytes of a buffer from a start up to an end from a seed, as far as it has them.
-pub fn fill(buffer: &mut [u8], start: usize, end: usize, seed: usize) {
+// Fills a buffer from a seed.
+pub fn fill(buffer: &mut [u8], seed: usize)
+    ensures { λ _. ⌜ now (buffer .exit) ≡ seeded (length (now (buffer .entry))) seed ⌝ }
+{
     let mut state = seed % 2147483648;
-    let mut i = start;
-    while i < end {
-        if i >= buffer.len() {
-            return;
-        }
+    let mut i = 0;
+    while i < buffer.len() {
         state = (state * 1103515245 + 12345) % 2147483648;
         buffer[i] = (state / 65536 % 256) as u8;
         i += 1;
     }
 }
 
+// Fills the bytes of a buffer from a start up to an end from a seed, where it has them all.
+pub fn fill_part(buffer: &mut [u8], start: usize, end: usize, seed: usize)
+    ensures { λ _. ⌜ now (buffer .exit) ≡ filledPart start end seed (now (buffer .entry)) ⌝ }
+{
+    if start > end {
+        return;
+    }
+    if end > buffer.len() {
+        return;
+    }
+    fill(&mut buffer[start..end], seed);
+}
+
 // Makes every byte of a buffer the same.
 pub fn flood(buffer: &mut [u8], byte: usize)
     requires { ⌜ byte < 256 ⌝ }
+    ensures { λ _. ⌜ now (buffer .exit) ≡ replicate (length (now (buffer .entry))) byte ⌝ }
 {
     let mut i = 0;
     while i < buffer.len() {
@@ -79,7 +100,9 @@ pub fn flood(buffer: &mut [u8], byte: usize)
 }
 
 // Puts bytes over the front of a buffer, as far as it goes.
-pub fn put_over(buffer: &mut [u8], bytes: &[u8]) {
+pub fn put_over(buffer: &mut [u8], bytes: &[u8])
+    ensures { λ _. ⌜ now (buffer .exit) ≡ atFront (take (length (now (buffer .entry))) (now (bytes .entry))) (now (buffer .entry)) ⌝ }
+{
     let mut i = 0;
     while i < bytes.len() {
         if i >= buffer.len() {
@@ -92,15 +115,17 @@ pub fn put_over(buffer: &mut [u8], bytes: &[u8]) {
 
 // A long buffer, filled from a seed.
 pub fn filled(seed: usize) -> [u8; 4096]
-    ensures { λ r. ⌜ 4096 ≡ length r ⌝ }
+    ensures { λ r. ⌜ (r ≡ seeded 4096 seed) × (4096 ≡ length r) ⌝ }
 {
     let mut buffer = [0u8; 4096];
-    fill(&mut buffer, 0, 4096, seed);
+    fill(&mut buffer, seed);
     buffer
 }
 
 // A digest in which every byte and the length count.
-pub fn digest(bytes: &[u8]) -> usize {
+pub fn digest(bytes: &[u8]) -> usize
+    ensures { λ r. ⌜ r ≡ digestFrom 0 (now (bytes .entry)) ⌝ }
+{
     let mut sum = 0;
     let mut i = 0;
     while i < bytes.len() {
@@ -111,18 +136,25 @@ pub fn digest(bytes: &[u8]) -> usize {
 }
 
 // Whether two slices have the same bytes from a place on.
-pub fn same_behind(one: &[u8], other: &[u8], at: usize) -> bool {
+pub fn same_behind(one: &[u8], other: &[u8], at: usize) -> bool
+    ensures { λ r. ⌜ r ≡ same (drop at (now (one .entry))) (drop at (now (other .entry))) ⌝ }
+{
     is_same(rest_at(one, at), rest_at(other, at))
 }
 
 // Whether bytes, at most 64, are all zero.
-pub fn is_zero(bytes: &[u8]) -> bool {
+pub fn is_zero(bytes: &[u8]) -> bool
+    requires { ⌜ length (now bytes) ≤ 64 ⌝ }
+    ensures { λ r. ⌜ r ≡ same (now (bytes .entry)) (replicate (length (now (bytes .entry))) 0) ⌝ }
+{
     let zeros = [0u8; 64];
     is_same(bytes, front_of(&zeros, bytes.len()))
 }
 
 // Whether a number is among bytes.
-pub fn contains(bytes: &[u8], number: usize) -> bool {
+pub fn contains(bytes: &[u8], number: usize) -> bool
+    ensures { λ r. ⌜ r ≡ listed (now (bytes .entry)) number ⌝ }
+{
     let mut i = 0;
     while i < bytes.len() {
         if byte_at(bytes, i) == number {
@@ -134,7 +166,9 @@ pub fn contains(bytes: &[u8], number: usize) -> bool {
 }
 
 // The bits of a pattern, the lowest first, each a byte of 0 or 1.
-pub fn spread(pattern: u64) -> [u8; 64] {
+pub fn spread(pattern: u64) -> [u8; 64]
+    ensures { λ r. ⌜ r ≡ lowBits 64 pattern ⌝ }
+{
     let mut bits = [0u8; 64];
     let mut rest = pattern;
     let mut i = 0;

@@ -58,12 +58,6 @@ fn print_verdict(verdict: Verdict) {
     }
 }
 
-// Fills a whole buffer from a seed.
-fn fill_all(buffer: &mut [u8], seed: usize) {
-    let length = buffer.len();
-    fill(buffer, 0, length, seed);
-}
-
 // The digest of a whole buffer, as the end of a line.
 fn print_digest(bytes: &[u8]) {
     print(b" digest");
@@ -151,7 +145,7 @@ fn write_family(record: &[u8], buffer: &mut [u8]) {
         number_at(record, 9),
         number_at(record, 17),
     );
-    fill_all(buffer, number_at(record, 33));
+    fill(buffer, number_at(record, 33));
     let written = families::write_family(family, buffer);
     match written {
         Written::Sheet { length } => {
@@ -168,9 +162,9 @@ fn write_family(record: &[u8], buffer: &mut [u8]) {
 fn encode(record: &[u8], contents: &mut [u8], stripe: &mut [u8]) {
     let rest = rest_at(record, 49);
     let sheet = front_of(rest, number_at(record, 41));
-    fill_all(contents, number_at(record, 17));
+    fill(contents, number_at(record, 17));
     put_over(contents, rest_at(rest, sheet.len()));
-    fill_all(stripe, number_at(record, 33));
+    fill(stripe, number_at(record, 33));
     let verdict = encoding::encode(sheet, number_at(record, 1), contents, stripe);
     print_verdict(verdict);
     print_short(stripe);
@@ -181,7 +175,7 @@ fn show_strip(record: &[u8], stripe: &mut [u8]) {
     let disk = number_at(record, 1);
     let size = number_at(record, 9);
     let sheet = rest_at(record, 33);
-    fill_all(stripe, number_at(record, 25));
+    fill(stripe, number_at(record, 25));
     print_verdict(views::strip_verdict(sheet, disk, size, stripe));
     print_part(views::strip(sheet, disk, size, stripe));
 }
@@ -191,8 +185,8 @@ fn look_up(record: &[u8], stripe: &mut [u8], spare: &mut [u8]) {
     let size = number_at(record, 9);
     let symbol = number_at(record, 49);
     let sheet = rest_at(record, 57);
-    fill_all(stripe, number_at(record, 25));
-    fill_all(spare, number_at(record, 41));
+    fill(stripe, number_at(record, 25));
+    fill(spare, number_at(record, 41));
     print_verdict(views::look_up_verdict(sheet, disk, size, stripe, spare, symbol));
     print_part(views::look_up(sheet, disk, size, stripe, spare, symbol));
 }
@@ -248,7 +242,7 @@ fn ruin(stripe: &mut [u8], start: usize, end: usize, seed: usize) {
         flood(&mut stripe[start..end], seed);
         return;
     }
-    fill(stripe, start, end, seed);
+    fill(&mut stripe[start..end], seed);
 }
 
 // Makes a valid stripe, where there is data to encode.
@@ -266,8 +260,8 @@ fn rebuild(record: &[u8], stripe: &mut [u8], contents: &mut [u8]) {
     let sheets = rest_at(rest, disks.len());
     let sheet = front_of(sheets, number_at(record, 73));
     let plan = rest_at(sheets, sheet.len());
-    fill_all(stripe, number_at(record, 25));
-    fill_all(contents, number_at(record, 41));
+    fill(stripe, number_at(record, 25));
+    fill(contents, number_at(record, 41));
     encode_first(sheet, size, contents, stripe);
     ruin(
         stripe,

@@ -1,5 +1,7 @@
 -- `planvectors::is_good` lends parts that lie within their places. Assumes nothing.
+use mathlib.Core.Path.{ap}
 use native.Mathlib.Omega.{arith}
+use lib.ListN.{length, length-drop}
 use borrow.Author.Needs.{needs}
 use Rattle.planvectors.proofs.is_good.Statement.{statement}
 use Rattle.planvectors.proofs.is_good.Tie as tie
@@ -44,7 +46,7 @@ rest-at-requires : tie.Need-rest-at-requires
 rest-at-requires c κs = tt
 
 is-zero-requires : tie.Need-is-zero-requires
-is-zero-requires c κs = tt
+is-zero-requires c κs = omega (arith, simp length-drop at (ap length (c .rest-at .ensures)))
 
 returns : tie.Need-returns
 returns c = tt

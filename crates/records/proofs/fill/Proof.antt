@@ -1,26 +1,22 @@
--- `records::fill` ends, stays within the buffer, and its products fit. The invariant: the buffer keeps its length, the state is below 2 ^ 31.
--- Assumes nothing.
-use mathlib.Core.Path.{_≡_}
-use Prim.Native.Nat.{_<_, _-_}
+-- `records::fill` meets its contract, and its products fit. The invariant: the bytes passed are stored, and those left are made of the state, which
+-- is below 2 ^ 31. Assumes nothing.
+use Prim.Native.Nat.{_-_, _%_, _<_}
 use native.Mathlib.Omega.{arith}
-use lib.ListN.{length, length-set}
+use lib.ListN.{length}
+use Rattle.records.specs.Records.{nextState, stateByte}
+use Rattle.records.proofs.MadeLaws.{Storing, storing-starts, storing-more, storing-ends}
 use Rattle.records.proofs.fill.Statement.{statement}
 use Rattle.records.proofs.fill.Tie as tie
 
 abbrev Inv-loop : tie.InvT-loop
-Inv-loop buffer₀ start end seed state₀ i₀ buffer state i = (length buffer ≡ length buffer₀) × (state < 2147483648)
+Inv-loop buffer₀ seed state₀ i₀ buffer state i =
+    (state < 2147483648) × Storing stateByte nextState buffer₀ (seed % 2147483648) buffer state i
 
 abbrev μ-loop : tie.MeasureT-loop
-μ-loop buffer₀ start end seed state₀ i₀ buffer state i = end - i
+μ-loop buffer₀ seed state₀ i₀ buffer state i = length buffer₀ - i
 
 loop-holds : tie.Need-loop-holds Inv-loop μ-loop
-loop-holds c = omega arith
-
-same-length : tie.Need-same-length Inv-loop μ-loop
-same-length c = omega arith
-
-returns : tie.Need-returns Inv-loop μ-loop
-returns c = tt
+loop-holds c = (omega arith, storing-starts)
 
 mul-state : tie.Need-mul-state Inv-loop μ-loop
 mul-state c = omega arith
@@ -41,13 +37,14 @@ loop-less : tie.Need-loop-less Inv-loop μ-loop
 loop-less c = omega arith
 
 loop-again : tie.Need-loop-again Inv-loop μ-loop
-loop-again c = simp length-set (omega arith)
+unfolding nextState stateByte
+loop-again c = (omega arith, storing-more (c .before .loop .inv .1) (omega arith))
 
-same-length-2 : tie.Need-same-length-2 Inv-loop μ-loop
-same-length-2 c = omega arith
+same-length : tie.Need-same-length Inv-loop μ-loop
+same-length c = omega arith
 
-returns-2 : tie.Need-returns-2 Inv-loop μ-loop
-returns-2 c = tt
+returns : tie.Need-returns Inv-loop μ-loop
+returns c = storing-ends (c .before .loop .inv .1) (omega arith)
 
 pub fill-spec : {M : Type 1} → statement M
 fill-spec =
@@ -56,8 +53,6 @@ fill-spec =
     Inv-loop
     μ-loop
     loop-holds
-    same-length
-    returns
     mul-state
     add-state
     cast-buffer
@@ -65,5 +60,5 @@ fill-spec =
     add-i
     loop-less
     loop-again
-    same-length-2
-    returns-2)
+    same-length
+    returns)

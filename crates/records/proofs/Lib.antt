@@ -1,0 +1,3 @@
+pub mod MadeLaws
+pub mod PartLaws
+pub mod LoopLaws
