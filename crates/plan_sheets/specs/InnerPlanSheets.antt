@@ -16,7 +16,7 @@ use Rattle.gf2.specs.Plans.{readByAny}
 use Rattle.gf2.specs.declared.Step.{Step}
 use Rattle.gf2.specs.declared.Step.the-variants.{Clear, Copy, Add}
 use Rattle.sheets.specs.Bytes.{counted}
-use Rattle.plan_sheets.specs.PlanSheets.{PlanHead, ListPlace, Sections, firstCount, sectionsFor, headLength, mostSteps, stepsLength, sheetLength}
+use Rattle.plan_sheets.specs.PlanSheets.{PlanHead, ListPlace, Sections, firstCount, sectionsFor, headLength, stepLimit, stepsLength, sheetLength}
 
 -- ------------------------------------------------------------------
 -- The head
@@ -83,7 +83,7 @@ pub record HeadWritable (head : PlanHead) (failed wanted : List ℕ) (steps buff
   pub numbers-to : HeadOfBytes head
   pub failed-to : length failed < 256
   pub wanted-to : length wanted < 256
-  pub steps-to : steps ≤ mostSteps
+  pub steps-to : steps ≤ stepLimit
   pub room : headLength (sectionsOf (head .edition) failed wanted) ≤ bufferLength
 
 -- ------------------------------------------------------------------
@@ -109,9 +109,9 @@ unfoldable pub withSteps : List ℕ → ℕ → List Step → List ℕ
 withSteps buffer number steps =
     take (stepsLength number) buffer ++ stepsBytes steps ++ drop (stepsLength (number + length steps)) buffer
 
--- So many steps, no more than a plan has, lie within so many bytes
+-- So many steps, no more than the limit, lie within so many bytes
 pub record StepsWithin (count bytes : ℕ) : Type 0 where
-  pub few : count ≤ mostSteps
+  pub few : count ≤ stepLimit
   pub room : stepsLength count ≤ bytes
 
 -- These steps do, from step `number` on
@@ -154,5 +154,5 @@ pub record PlanFits (edition : ℕ) (layout : Layout) (dataSymbols : ℕ) (faile
   pub failed-to : length failed < 256
   pub list-to : length list < 256
   pub subsets-below : (t : ℕ) → getD subsets t 0 < 2 ^ symbolsOf layout
-  pub steps-fit : length (subsetPlan (symbolsOf layout) wanted subsets) ≤ mostSteps
+  pub steps-fit : length (subsetPlan (symbolsOf layout) wanted subsets) ≤ stepLimit
   pub room : sheetLength (sectionsOf edition failed list) (length (subsetPlan (symbolsOf layout) wanted subsets)) ≤ bufferLength

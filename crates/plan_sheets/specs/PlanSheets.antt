@@ -90,9 +90,9 @@ stepCount sheet = stepCountAt (sectionsIn sheet) sheet
 -- ------------------------------------------------------------------
 -- The steps
 
--- "A plan has 0 to 1,024 steps"
-abbrev pub mostSteps : ℕ
-mostSteps = 1024
+-- The step limit: "A plan has 0 to 1,024 steps"
+abbrev pub stepLimit : ℕ
+stepLimit = 1024
 
 -- The length of so many steps
 abbrev pub stepsLength : ℕ → ℕ

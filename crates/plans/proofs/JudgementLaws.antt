@@ -24,7 +24,7 @@ use Rattle.gf2.proofs.Columns.{length-runOnStripe}
 use Rattle.gf2.proofs.PlanLaws.{run-take}
 use Rattle.bits.proofs.SearchLaws.{firstFrom-none, none-if-firstFrom-behind}
 use Rattle.gf2.proofs.StripeLaws.{usesOnlyKnown-names-below, accepted-restores-stripes, accepted-gives-stripe-back, accepted-depends-on-known, runOnStripe-keeps-unwritable, accepted-if-restores-stripes, restores-means-filled}
-use Rattle.lists.specs.Lists.{GoodList, listed, diskFaults, GoodDisks, same}
+use Rattle.lists.specs.Lists.{GoodList, listed, diskFaults, same}
 use Rattle.lists.proofs.ListLaws.{good-if-no-fault, no-fault-if-good, listed-passes, good-disks-if-no-fault, no-fault-if-good-disks, same-means-equal, same-itself}
 use Rattle.refusals.specs.Orders.{Fault, _gets_, firstOf, ifFine, Outcome, Fine, Refused}
 use Rattle.refusals.specs.Refusals.{_at_}
@@ -32,7 +32,7 @@ use Rattle.refusals.proofs.OrderLaws.{NoneHolds, fine-means-none-holds, none-ho
 use Rattle.plan_sheets.specs.PlanSheets.{Plan, firstCount, stepOf, stepsOf}
 use Rattle.plan_sheets.specs.declared.step.SheetStep.{SheetStep}
 use Rattle.plan_sheets.specs.declared.head.PlanHead.{PlanHead}
-use Rattle.plans.specs.Judgement.{lost, survives, lostCount, editionOf, headFaults, mostFailed, failedFaults, wantedOf, keptOf, leastWanted, mostWanted, wantedFaults, EachFormed, stepFaults, stepsVerdict, trueReadCount, neverFilled, endsWrong, lowestWanted, endFaults, SetsWithin, judgement, originOf, bodyVerdict, planFaults, planVerdict}
+use Rattle.plans.specs.Judgement.{lost, survives, lostCount, editionOf, headFaults, mostFailed, failedFaults, wantedOf, keptOf, wantedFaults, EachFormed, stepFaults, stepsVerdict, trueReadCount, neverFilled, endsWrong, lowestWanted, endFaults, SetsWithin, judgement, originOf, bodyVerdict, planFaults, planVerdict, GoodFailed, GoodWanted}
 use Rattle.plans.specs.Demand2.{HeadFits, Deserves}
 use Rattle.plan_sheets.proofs.ReadingLaws.{target-stepOf}
 
@@ -108,7 +108,7 @@ module _ (layout : Layout) (disks : List ℕ) (edition : ℕ) (failed : List ℕ
   listFault = (not (same failed disks) gets 16 at 0) ∷ []
 
   -- Failed disks without a fault are good ones, and those asked
-  pub failed-if-fine : NoneHolds (failedFaults layout disks edition failed) → GoodDisks (layout .disks) (mostFailed edition (layout .disks)) failed × (failed ≡ disks)
+  pub failed-if-fine : NoneHolds (failedFaults layout disks edition failed) → GoodFailed layout edition failed × (failed ≡ disks)
   failed-if-fine none =
       let lists = diskFaults (layout .disks) (mostFailed edition (layout .disks)) failed in (
         good-disks-if-no-fault (layout .disks) (mostFailed edition (layout .disks)) failed (none-holds-first lists listFault none),
@@ -116,7 +116,7 @@ module _ (layout : Layout) (disks : List ℕ) (edition : ℕ) (failed : List ℕ
       )
 
   -- and the other way round
-  pub failed-fine-if : GoodDisks (layout .disks) (mostFailed edition (layout .disks)) failed → failed ≡ disks → NoneHolds (failedFaults layout disks edition failed)
+  pub failed-fine-if : GoodFailed layout edition failed → failed ≡ disks → NoneHolds (failedFaults layout disks edition failed)
   failed-fine-if good asked =
       none-holds-join (diskFaults (layout .disks) (mostFailed edition (layout .disks)) failed) listFault
       (no-fault-if-good-disks (layout .disks) (mostFailed edition (layout .disks)) failed good)
@@ -290,7 +290,7 @@ lost-from layout some disk s is-lost =
     on-disk-between layout disk s
     (on-disk-of layout some disk s ∙ sym (or-false (eqb (diskOf layout s) disk)) ∙ and-right (ltb s (symbolsOf layout)) _ is-lost) .0
 
-module _ (layout : Layout) (some : 1 ≤ layout .height) (disks : List ℕ) (edition : ℕ) (good : GoodDisks (layout .disks) (mostFailed edition (layout .disks)) disks) where
+module _ (layout : Layout) (some : 1 ≤ layout .height) (disks : List ℕ) (edition : ℕ) (good : GoodFailed layout edition disks) where
   -- The first of the disks is one of the array's
   pub first-disk-below : getD disks 0 0 < layout .disks
   first-disk-below = ltb-true _ _ (good .each-allowed 0 (good .count-from))
@@ -365,9 +365,9 @@ AcceptedFor code disks plan = Accepted (matrix code) (wantedBy code disks plan) 
 -- The rules for a plan's head and lists
 pub record ListsGood (code : LinearCode) (disks : List ℕ) (plan : Plan) : Type 0 where
   pub head-fits : HeadFits code (plan .head)
-  pub failed-good : GoodDisks (code .layout .disks) (mostFailed (plan .head .edition) (code .layout .disks)) (plan .failed)
+  pub failed-good : GoodFailed (code .layout) (plan .head .edition) (plan .failed)
   pub failed-asked : plan .failed ≡ disks
-  pub wanted-good : GoodList (leastWanted (plan .head .edition)) (mostWanted (code .layout) disks (plan .head .edition)) (lost (code .layout) disks) (plan .wanted)
+  pub wanted-good : GoodWanted (code .layout) disks (plan .head .edition) (plan .wanted)
 
 module _ (code : LinearCode) (within : WithinLimits code) (disks : List ℕ) (plan : Plan) where
   -- ------------------------------------------------------------------
@@ -408,7 +408,7 @@ module _ (code : LinearCode) (within : WithinLimits code) (disks : List ℕ) (pl
   pub sets-if-good : ListsGood code disks plan → SetsWithin (symbols code) (survives (code .layout) disks) (wantedBy code disks plan) (originOf (code .layout) disks (plan .head .edition))
   sets-if-good good =
       plan-sets (code .layout) (within .height-from) disks (plan .head .edition)
-      (subst (GoodDisks (code .layout .disks) (mostFailed (plan .head .edition) (code .layout .disks))) (good .failed-asked) (good .failed-good)) (plan .wanted) (good .wanted-good)
+      (subst (GoodFailed (code .layout) (plan .head .edition)) (good .failed-asked) (good .failed-good)) (plan .wanted) (good .wanted-good)
 
   -- Wanted symbols are rows of the matrix
   wanted-rows : ListsGood code disks plan → PlacesBelow (length (matrix code)) (wantedBy code disks plan)

@@ -7,13 +7,13 @@ use lib.Dec.{eqb}
 use Rattle.codes.specs.Codes.{LinearCode, WithinLimits}
 use Rattle.bits.specs.BitSets.{has}
 use Rattle.bits.specs.Numerals.{setWidth}
-use Rattle.lists.specs.Lists.{listOrder, GoodList, diskFaults, GoodDisks}
+use Rattle.lists.specs.Lists.{listOrder, diskFaults, GoodDisks}
 use Rattle.plan_sheets.specs.InnerPlanSheets.{SmallSections}
 use Rattle.plan_sheets.specs.PlanSheets.{headIn, sectionsIn, stepCount}
 use Rattle.plan_sheets.specs.declared.head.PlanHead.{PlanHead}
 use Rattle.plan_sheets.specs.declared.head.Sections.{Sections}
 use Rattle.plans.specs.Check.{lengthFaults}
-use Rattle.plans.specs.Judgement.{lost, mostFailed, leastWanted, mostWanted}
+use Rattle.plans.specs.Judgement.{lost, mostFailed, leastWanted, GoodFailed, GoodWanted}
 use Rattle.refusals.specs.Orders.{Fault, _gets_}
 use Rattle.refusals.specs.Refusals.{_at_}
 
@@ -36,9 +36,9 @@ closeOrder disks edition failed apart lostSymbols count bad whole sheetBytes =
 -- What judging the steps needs: a code within the limits, disks and a list that are good, and the set of the lost symbols
 pub record PlanJudged (code : LinearCode) (disks : List ℕ) (gone : ℕ) (head : PlanHead) (list : List ℕ) : Type 0 where
   pub within : WithinLimits code
-  pub disks-good : GoodDisks (code .layout .disks) (mostFailed (head .edition) (code .layout .disks)) disks
+  pub disks-good : GoodFailed (code .layout) (head .edition) disks
   pub gone-is : (s : ℕ) → has gone s ≡ lost (code .layout) disks s
-  pub list-good : GoodList (leastWanted (head .edition)) (mostWanted (code .layout) disks (head .edition)) (lost (code .layout) disks) list
+  pub list-good : GoodWanted (code .layout) disks (head .edition) list
 
 -- The disks that a sheet lists are good where they are those asked: they were tested before
 abbrev pub KnownDisks : ℕ → ℕ → List ℕ → Bool → Type 0

@@ -17,7 +17,7 @@ use Rattle.bits.specs.Lists.{firstFrom, countFrom}
 use Rattle.bits.specs.Numerals.{firstDifference}
 use Rattle.gf2.specs.Plans.{run, readByAny, PlacesBelow, extend, ready, filledAfter}
 use Rattle.gf2.specs.declared.Step.{Step}
-use Rattle.lists.specs.Lists.{listFaults, listed, diskFaults, same}
+use Rattle.lists.specs.Lists.{GoodList, listFaults, listed, diskFaults, same, GoodDisks}
 use Rattle.refusals.specs.Orders.{Fault, _gets_, firstOf, ifFine, Outcome, Fine, Answer, answering}
 use Rattle.refusals.specs.Refusals.{_at_}
 
@@ -62,6 +62,10 @@ abbrev pub failedFaults : Layout → List ℕ → ℕ → List ℕ → List Faul
 failedFaults layout disks edition failed =
     diskFaults (layout .disks) (mostFailed edition (layout .disks)) failed ++ ((not (same failed disks) gets 16 at 0) ∷ [])
 
+-- A list of failed disks that 7 and 24 have nothing against
+abbrev pub GoodFailed : Layout → ℕ → List ℕ → Type 0
+GoodFailed layout edition failed = GoodDisks (layout .disks) (mostFailed edition (layout .disks)) failed
+
 -- Wanted are the listed symbols, and without a list all lost ones
 abbrev pub wantedOf : Layout → List ℕ → List ℕ → ℕ → Bool
 wantedOf layout disks list s = cond (eqb (length list) 0) (lost layout disks s) (listed list s)
@@ -82,6 +86,10 @@ mostWanted layout disks edition = cond (eqb edition 1) 0 (lostCount layout disks
 abbrev pub wantedFaults : Layout → List ℕ → ℕ → List ℕ → List Fault
 wantedFaults layout disks edition list =
     listFaults (leastWanted edition) (mostWanted layout disks edition) (lost layout disks) list (λ position. 23 at position)
+
+-- A list of wanted symbols that 23 has nothing against
+abbrev pub GoodWanted : Layout → List ℕ → ℕ → List ℕ → Type 0
+GoodWanted layout disks edition list = GoodList (leastWanted edition) (mostWanted layout disks edition) (lost layout disks) list
 
 -- ------------------------------------------------------------------
 -- The steps
