@@ -1,5 +1,4 @@
--- Any two disks of a Liberation array with w 3 or 5 have a plan, for every listed k, and so has each: elimination, computed over the definitions.
--- With w 7 computing takes too long here; planvectors asks for each pair. Assumes nothing.
+-- Any two disks of a Liberation array have a plan, for every listed w and k, and so has each: elimination, computed over the definitions. Assumes nothing.
 use mathlib.Core.Path.{_≡_, refl, sym, ap, _∙_}
 use mathlib.Core.Bool.{Bool, true, _&&_, _||_}
 use Prim.Native.Nat.{ℕ, suc, _≤_}
@@ -34,14 +33,24 @@ liberation-5 : noneFoundFor 5 ≡ true
 unfolding computed
 liberation-5 = refl
 
+liberation-7 : noneFoundFor 7 ≡ true
+unfolding computed
+liberation-7 = refl
+
 pub liberation-3-recovers-each-pair : RecoversEachPair (Liberation 3)
 liberation-3-recovers-each-pair = recovers-if-none-found 3 liberation-3
 
 pub liberation-5-recovers-each-pair : RecoversEachPair (Liberation 5)
 liberation-5-recovers-each-pair = recovers-if-none-found 5 liberation-5
 
+pub liberation-7-recovers-each-pair : RecoversEachPair (Liberation 7)
+liberation-7-recovers-each-pair = recovers-if-none-found 7 liberation-7
+
 pub liberation-3-recovers-each-disk : RecoversEachDisk (Liberation 3)
 liberation-3-recovers-each-disk = recovers-each-disk (Liberation 3) liberation-3-recovers-each-pair
 
 pub liberation-5-recovers-each-disk : RecoversEachDisk (Liberation 5)
 liberation-5-recovers-each-disk = recovers-each-disk (Liberation 5) liberation-5-recovers-each-pair
+
+pub liberation-7-recovers-each-disk : RecoversEachDisk (Liberation 7)
+liberation-7-recovers-each-disk = recovers-each-disk (Liberation 7) liberation-7-recovers-each-pair

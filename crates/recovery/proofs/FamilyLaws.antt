@@ -11,6 +11,7 @@ use Rattle.codes.specs.Codes.{rowsOf}
 use Rattle.codes.specs.Layouts.{symbolsOf, firstSymbol, heightOf, diskOf}
 use Rattle.gf2.specs.InnerElimination.{pivotFor, reducePatterns, remaining, unitsFrom}
 use Rattle.gf2.specs.InnerSubsetPlans.{survivors}
+use Rattle.gf2.proofs.IdentityRowLaws.{nonempty, lostUnits}
 use Rattle.lists.specs.Lists as Lists
 use Rattle.solve.specs.InnerSolving.{oddPattern}
 use Rattle.family_codes.specs.Families.{listed, threeFiveOrSeven, familyCode, familyRow, diskRow, parityRow, dataOrRowParity, unit, sumOver, extraEntry, diagonalEntry}
@@ -18,17 +19,22 @@ use Rattle.family_codes.specs.declared.Family.{Family}
 use Rattle.family_codes.specs.declared.Family.the-variants.{SingleParity}
 use Rattle.family_codes.proofs.LimitLaws.{familyCode-within-limits}
 use Rattle.recovery.specs.Recovery.{EachPairHasAPlan, RecoversEachPair, RecoversEachDisk}
-use Rattle.recovery.proofs.RecoveryLaws.{allBelow, noPatternForPairs, each-pair-has-a-plan, each-disk-has-a-plan}
+use Rattle.recovery.proofs.RecoveryLaws.{allBelow, beginsWithUnits, noPatternForPairs, each-pair-has-a-plan, each-disk-has-a-plan}
 
 -- A fact that unfolds this computes: it opens all that elimination over a family's code is made of
 unfoldable pub computed : Bool → Bool
-unfolding allBelow familyCode familyRow diskRow parityRow dataOrRowParity unit sumOver extraEntry diagonalEntry rowsOf tabulate symbolsOf firstSymbol heightOf diskOf Lists.listed symbolsIn padded unitsFrom survivors remaining reducePatterns pivotFor oddPattern overlap count countIn scale
+unfolding allBelow familyCode familyRow diskRow parityRow dataOrRowParity unit sumOver extraEntry diagonalEntry rowsOf tabulate symbolsOf firstSymbol heightOf diskOf Lists.listed Lists.same symbolsIn padded unitsFrom lostUnits nonempty survivors remaining reducePatterns pivotFor oddPattern overlap count countIn scale
 computed test = test
 
 -- The test can fail: of three disks with single parity two can't be lost
 single-parity-fails : noPatternForPairs (familyCode (SingleParity 2 1)) ≡ false
 unfolding computed
 single-parity-fails = refl
+
+-- though its first rows are the identity rows
+single-parity-begins-with-units : beginsWithUnits (familyCode (SingleParity 2 1)) ≡ true
+unfolding computed
+single-parity-begins-with-units = refl
 
 -- Where no pattern is found for any two disks of a listed code, they have a plan
 pub pairs-of : (family : Family) → noPatternForPairs (familyCode family) ≡ true → listed family ≡ true → EachPairHasAPlan (familyCode family)

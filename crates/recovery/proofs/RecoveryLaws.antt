@@ -9,20 +9,24 @@ use native.Mathlib.Nat.{not-suc-le-zero, eq-or-lt-of-le, le-of-suc-le-suc}
 use native.Mathlib.Decide.{decLt}
 use native.Mathlib.Omega.{arith}
 use lib.Dec.{eqb, ltb}
-use lib.ListN.{getD}
+use lib.ListN.{getD, take, drop}
 use borrow.Author.Tests.{eqb-true, eqb-false, eq-eqb, lt-ltb}
 use Rattle.bits.proofs.Booleans.{bool-cases, and-left, and-right, and-true-if-both, or-true-if-left, or-true-if-right}
 use Rattle.codes.specs.Codes.{LinearCode, matrix, WithinLimits}
 use Rattle.codes.specs.Layouts.{symbolsOf, diskOf}
-use Rattle.lists.specs.Lists.{GoodList, GoodDisks, listed}
+use Rattle.gf2.specs.InnerElimination.{remaining, units}
+use Rattle.gf2.proofs.IdentityRowLaws.{nonempty, lostUnits, remaining-after-identity-rows}
+use Rattle.lists.specs.Lists.{GoodList, GoodDisks, listed, same}
+use Rattle.lists.proofs.ListLaws.{same-means-equal}
 use Rattle.plan_sheets.specs.InnerPlanSheets.{First, Third}
 use Rattle.plans.specs.Judgement.{lost, survives}
 use Rattle.plans.proofs.PatternLaws.{no-plan-if-pattern-odd}
-use Rattle.solve.proofs.OddPatternLaws.{shows-if-found}
+use Rattle.solve.specs.InnerSolving.{oddPattern}
+use Rattle.solve.proofs.OddPatternLaws.{oddPattern-nonempty, shows-if-found}
 use Rattle.planning.specs.Demand3.{SomePlanAccepted}
 use Rattle.planning.specs.InnerWork.{Workable}
-use Rattle.plan_requests.specs.PlanRequests.{wholeDisk, listedOnSet}
-use Rattle.planning.proofs.WorkLaws.{patternFound, targets, target-wanted, steps-right}
+use Rattle.plan_requests.specs.PlanRequests.{Asked, wholeDisk, listedOnSet}
+use Rattle.planning.proofs.WorkLaws.{targets, survivingRows, patternsLeft, patternFound, target-wanted, steps-right}
 use Rattle.planning.proofs.CallLaws.{some-plan}
 use Rattle.recovery.specs.Recovery.{wholePair, EachPairHasAPlan, EachDiskHasAPlan}
 
@@ -85,21 +89,41 @@ workable-pair : (code : LinearCode) → WithinLimits code → (disk other : ℕ)
 workable-pair code within disk other apart below =
     record { within = within; disks-good = pair-good apart below; edition-fits = Third refl; list-good = none-listed; room = omega arith }
 
--- Whether elimination finds no pattern for a disk and any before it
-abbrev pub noPatternWith : LinearCode → ℕ → Bool
-noPatternWith code other = allBelow other (λ disk. eqb (patternFound code (wholePair disk other)) 0)
+-- Whether the first K rows are the identity rows
+abbrev pub beginsWithUnits : LinearCode → Bool
+beginsWithUnits code = same (take (code .data_symbols) (matrix code)) (units (code .data_symbols))
 
--- nor for any two disks
+-- The pattern that elimination finds, worked out from the units of the lost data symbols and the rows of the parity symbols alone
+abbrev patternLeft : LinearCode → Asked → ℕ
+patternLeft code asked =
+    oddPattern
+    (nonempty (remaining (lostUnits (survives (code .layout) (asked .disks)) (code .data_symbols) 0) (drop (code .data_symbols) (survivingRows code asked))))
+    (matrix code) (targets code asked)
+
+-- Where the first rows are the identity rows, it is the one that elimination over all symbols finds
+patternLeft-is-patternFound : (code : LinearCode) → beginsWithUnits code ≡ true → (asked : Asked) → patternLeft code asked ≡ patternFound code asked
+patternLeft-is-patternFound code begins asked =
+    ap (λ (patterns : List ℕ). oddPattern patterns (matrix code) (targets code asked))
+    (sym (remaining-after-identity-rows (code .data_symbols) (survives (code .layout) (asked .disks)) (matrix code) (same-means-equal _ _ begins)))
+    ∙ oddPattern-nonempty (patternsLeft code asked) (matrix code) (targets code asked)
+
+-- Whether elimination finds no pattern for a disk and any before it
+abbrev noPatternWith : LinearCode → ℕ → Bool
+noPatternWith code other = allBelow other (λ disk. eqb (patternLeft code (wholePair disk other)) 0)
+
+-- nor for any two disks, and the first rows are the identity rows
 abbrev pub noPatternForPairs : LinearCode → Bool
-noPatternForPairs code = allBelow (code .layout .disks) (noPatternWith code)
+noPatternForPairs code = beginsWithUnits code && allBelow (code .layout .disks) (noPatternWith code)
 
 -- Then any two disks have a plan
 pub each-pair-has-a-plan : (code : LinearCode) → WithinLimits code → noPatternForPairs code ≡ true → EachPairHasAPlan code
 each-pair-has-a-plan code within none disk other apart below =
+    let pair = wholePair disk other in
     let workable = workable-pair code within disk other apart below in
-    let of-other = all-below (code .layout .disks) (noPatternWith code) none other below in
-    let even : patternFound code (wholePair disk other) ≡ 0 = eqb-true _ 0 (all-below other (λ d. eqb (patternFound code (wholePair d other)) 0) of-other disk apart) in
-    some-plan code (wholePair disk other) workable _ _ (steps-right code (wholePair disk other) workable even)
+    let begins = and-left (beginsWithUnits code) _ none in
+    let of-other = all-below (code .layout .disks) (noPatternWith code) (and-right (beginsWithUnits code) _ none) other below in
+    let of-both = all-below other (λ d. eqb (patternLeft code (wholePair d other)) 0) of-other disk apart in
+    some-plan code pair workable _ _ (steps-right code pair workable (sym (patternLeft-is-patternFound code begins pair) ∙ eqb-true _ 0 of-both))
 
 -- ------------------------------------------------------------------
 -- One disk

@@ -1,5 +1,5 @@
 -- Laws of the first odd pattern: looked for symbol by symbol, and what it says where one is found and where none is. Assumes nothing.
-use mathlib.Core.Path.{_≡_, refl, sym, ap, _∙_, subst}
+use mathlib.Core.Path.{_≡_, refl, sym, ap, ap₂, _∙_, subst}
 use mathlib.Core.Bool.{Bool, true, false, cond}
 use mathlib.Core.List.{List, [], _∷_, List·Memᴰ, List·Memᴰ·head, List·Memᴰ·tail}
 use Prim.Native.Nat.{ℕ, suc, _+_, _-_, _^_, _≤_, _<_}
@@ -16,6 +16,7 @@ use Rattle.elimination.proofs.PatternLaws.{unitPatterns-start}
 use Rattle.gf2.specs.InnerElimination.{pivotFor, remaining, EvenOn}
 use Rattle.gf2.specs.InnerSubsetPlans.{survivors}
 use Rattle.gf2.proofs.EliminationLaws.{pivot-even-if-all-even, even-if-no-pivot, odd-if-pivot, pivot-below, remaining-below, startsWithUnits-below}
+use Rattle.gf2.proofs.IdentityRowLaws.{nonempty, pivotFor-nonempty}
 use Rattle.gf2.proofs.PlanningLaws.{remaining-even-on-known}
 use Rattle.solve.specs.InnerSolving.{oddPattern}
 
@@ -60,6 +61,13 @@ module _ (patterns rows : List ℕ) (symbols : ℕ) (wanted : ℕ → Bool) (s :
   odd-none h =
       let none : symbols - s ≡ 0 = omega arith in
       rw none refl
+
+-- Patterns that are 0 do not change which is found
+pub oddPattern-nonempty : (patterns rows targets : List ℕ) → oddPattern (nonempty patterns) rows targets ≡ oddPattern patterns rows targets
+unfolding oddPattern
+oddPattern-nonempty patterns rows [] = refl
+oddPattern-nonempty patterns rows (t ∷ targets) =
+    ap₂ (λ (pattern later : ℕ). cond (eqb pattern 0) later pattern) (pivotFor-nonempty patterns (getD rows t 0)) (oddPattern-nonempty patterns rows targets)
 
 -- ------------------------------------------------------------------
 -- Found, or not
