@@ -10,7 +10,7 @@ use Rattle.family_codes.specs.Families.{listed, threeFiveOrSeven, familyCode}
 use Rattle.family_codes.specs.declared.Family.the-variants.{Liberation}
 use Rattle.recovery.specs.Recovery.{RecoversEachPair, RecoversEachDisk}
 use Rattle.recovery.proofs.RecoveryLaws.{allBelow, all-below, noPatternForPairs}
-use Rattle.recovery.proofs.FamilyLaws.{computed, pairs-of, recovers-each-disk}
+use Rattle.recovery.proofs.FamilyLaws.{computed, pairs-of, by-listed-number, recovers-each-disk}
 
 -- Whether no pattern is found for any k up to w; there is none below 2
 abbrev noneFoundFor : ℕ → Bool
@@ -37,20 +37,11 @@ liberation-7 : noneFoundFor 7 ≡ true
 unfolding computed
 liberation-7 = refl
 
-pub liberation-3-recovers-each-pair : RecoversEachPair (Liberation 3)
-liberation-3-recovers-each-pair = recovers-if-none-found 3 liberation-3
+pub liberation-recovers-each-pair : (w : ℕ) → RecoversEachPair (Liberation w)
+unfolding listed
+liberation-recovers-each-pair w k is-listed =
+    by-listed-number (λ w. RecoversEachPair (Liberation w)) (recovers-if-none-found 3 liberation-3) (recovers-if-none-found 5 liberation-5) (recovers-if-none-found 7 liberation-7) w
+    (and-left (threeFiveOrSeven w) (leb 2 k) (and-left (threeFiveOrSeven w && leb 2 k) (leb k w) is-listed)) k is-listed
 
-pub liberation-5-recovers-each-pair : RecoversEachPair (Liberation 5)
-liberation-5-recovers-each-pair = recovers-if-none-found 5 liberation-5
-
-pub liberation-7-recovers-each-pair : RecoversEachPair (Liberation 7)
-liberation-7-recovers-each-pair = recovers-if-none-found 7 liberation-7
-
-pub liberation-3-recovers-each-disk : RecoversEachDisk (Liberation 3)
-liberation-3-recovers-each-disk = recovers-each-disk (Liberation 3) liberation-3-recovers-each-pair
-
-pub liberation-5-recovers-each-disk : RecoversEachDisk (Liberation 5)
-liberation-5-recovers-each-disk = recovers-each-disk (Liberation 5) liberation-5-recovers-each-pair
-
-pub liberation-7-recovers-each-disk : RecoversEachDisk (Liberation 7)
-liberation-7-recovers-each-disk = recovers-each-disk (Liberation 7) liberation-7-recovers-each-pair
+pub liberation-recovers-each-disk : (w : ℕ) → RecoversEachDisk (Liberation w)
+liberation-recovers-each-disk w = recovers-each-disk (Liberation w) (liberation-recovers-each-pair w)

@@ -41,7 +41,7 @@ pub pairs-of : (family : Family) → noPatternForPairs (familyCode family) ≡ t
 pairs-of family none is-listed = each-pair-has-a-plan (familyCode family) (familyCode-within-limits family is-listed) none
 
 -- What holds of 3, 5 and 7 holds of every listed number
-by-listed-number : (Holds : ℕ → Type 0) → Holds 3 → Holds 5 → Holds 7 → (p : ℕ) → threeFiveOrSeven p ≡ true → Holds p
+pub by-listed-number : (Holds : ℕ → Type 0) → Holds 3 → Holds 5 → Holds 7 → (p : ℕ) → threeFiveOrSeven p ≡ true → Holds p
 by-listed-number Holds three five seven p h = by-tests (eqb p 3) (eqb p 5) (eqb p 7) refl refl refl h
   where
     by-tests : (a b c : Bool) → eqb p 3 ≡ a → eqb p 5 ≡ b → eqb p 7 ≡ c → (a || b || c) ≡ true → Holds p
