@@ -1,184 +1,183 @@
 -- `Refusal::in_table` meets its contract: arm by arm, the line of document 01's table. Assumes nothing.
-use borrow.Author.Needs.{needs}
 use Rattle.refusals.proofs.Refusal.in_table.Statement.{statement}
 use Rattle.refusals.proofs.Refusal.in_table.Tie as tie
 
 enum-told : tie.Need-enum-told
-enum-told c = search needs
+enum-told c = c .match .keys1
 
 at-requires : tie.Need-at-requires
 at-requires c κs = tt
 
 enum-told-2 : tie.Need-enum-told-2
-enum-told-2 c = search needs
+enum-told-2 c = c .match .keys2
 
 at-requires-2 : tie.Need-at-requires-2
 at-requires-2 c κs = tt
 
 enum-told-3 : tie.Need-enum-told-3
-enum-told-3 c = search needs
+enum-told-3 c = c .match .keys3
 
 at-requires-3 : tie.Need-at-requires-3
 at-requires-3 c κs = tt
 
 enum-told-4 : tie.Need-enum-told-4
-enum-told-4 c = search needs
+enum-told-4 c = c .match .keys4
 
 at-requires-4 : tie.Need-at-requires-4
 at-requires-4 c κs = tt
 
 enum-told-5 : tie.Need-enum-told-5
-enum-told-5 c = search needs
+enum-told-5 c = c .match .keys5
 
 at-requires-5 : tie.Need-at-requires-5
 at-requires-5 c κs = tt
 
 enum-known-self : tie.Need-enum-known-self
-enum-known-self c = search needs
+enum-known-self c = c .match .keys6
 
 at-requires-6 : tie.Need-at-requires-6
 at-requires-6 c κs = tt
 
 enum-told-6 : tie.Need-enum-told-6
-enum-told-6 c = search needs
+enum-told-6 c = c .match .keys7
 
 at-requires-7 : tie.Need-at-requires-7
 at-requires-7 c κs = tt
 
 enum-told-7 : tie.Need-enum-told-7
-enum-told-7 c = search needs
+enum-told-7 c = c .match .keys8
 
 at-requires-8 : tie.Need-at-requires-8
 at-requires-8 c κs = tt
 
 enum-told-8 : tie.Need-enum-told-8
-enum-told-8 c = search needs
+enum-told-8 c = c .match .keys9
 
 at-requires-9 : tie.Need-at-requires-9
 at-requires-9 c κs = tt
 
 enum-told-9 : tie.Need-enum-told-9
-enum-told-9 c = search needs
+enum-told-9 c = c .match .keys10
 
 at-requires-10 : tie.Need-at-requires-10
 at-requires-10 c κs = tt
 
 enum-told-10 : tie.Need-enum-told-10
-enum-told-10 c = search needs
+enum-told-10 c = c .match .keys11
 
 at-requires-11 : tie.Need-at-requires-11
 at-requires-11 c κs = tt
 
 enum-told-11 : tie.Need-enum-told-11
-enum-told-11 c = search needs
+enum-told-11 c = c .match .keys12
 
 at-requires-12 : tie.Need-at-requires-12
 at-requires-12 c κs = tt
 
 enum-told-12 : tie.Need-enum-told-12
-enum-told-12 c = search needs
+enum-told-12 c = c .match .keys13
 
 at-requires-13 : tie.Need-at-requires-13
 at-requires-13 c κs = tt
 
 enum-known-self-2 : tie.Need-enum-known-self-2
-enum-known-self-2 c = search needs
+enum-known-self-2 c = c .match .keys14
 
 at-requires-14 : tie.Need-at-requires-14
 at-requires-14 c κs = tt
 
 enum-known-self-3 : tie.Need-enum-known-self-3
-enum-known-self-3 c = search needs
+enum-known-self-3 c = c .match .keys15
 
 at-requires-15 : tie.Need-at-requires-15
 at-requires-15 c κs = tt
 
 enum-known-self-4 : tie.Need-enum-known-self-4
-enum-known-self-4 c = search needs
+enum-known-self-4 c = c .match .keys16
 
 at-requires-16 : tie.Need-at-requires-16
 at-requires-16 c κs = tt
 
 enum-known-self-5 : tie.Need-enum-known-self-5
-enum-known-self-5 c = search needs
+enum-known-self-5 c = c .match .keys17
 
 at-requires-17 : tie.Need-at-requires-17
 at-requires-17 c κs = tt
 
 enum-known-self-6 : tie.Need-enum-known-self-6
-enum-known-self-6 c = search needs
+enum-known-self-6 c = c .match .keys18
 
 at-requires-18 : tie.Need-at-requires-18
 at-requires-18 c κs = tt
 
 enum-known-self-7 : tie.Need-enum-known-self-7
-enum-known-self-7 c = search needs
+enum-known-self-7 c = c .match .keys19
 
 at-requires-19 : tie.Need-at-requires-19
 at-requires-19 c κs = tt
 
 enum-known-self-8 : tie.Need-enum-known-self-8
-enum-known-self-8 c = search needs
+enum-known-self-8 c = c .match .keys20
 
 at-requires-20 : tie.Need-at-requires-20
 at-requires-20 c κs = tt
 
 enum-known-self-9 : tie.Need-enum-known-self-9
-enum-known-self-9 c = search needs
+enum-known-self-9 c = c .match .keys21
 
 at-requires-21 : tie.Need-at-requires-21
 at-requires-21 c κs = tt
 
 enum-known-self-10 : tie.Need-enum-known-self-10
-enum-known-self-10 c = search needs
+enum-known-self-10 c = c .match .keys22
 
 at-requires-22 : tie.Need-at-requires-22
 at-requires-22 c κs = tt
 
 enum-told-13 : tie.Need-enum-told-13
-enum-told-13 c = search needs
+enum-told-13 c = c .match .keys23
 
 at-requires-23 : tie.Need-at-requires-23
 at-requires-23 c κs = tt
 
 enum-told-14 : tie.Need-enum-told-14
-enum-told-14 c = search needs
+enum-told-14 c = c .match .keys24
 
 at-requires-24 : tie.Need-at-requires-24
 at-requires-24 c κs = tt
 
 enum-told-15 : tie.Need-enum-told-15
-enum-told-15 c = search needs
+enum-told-15 c = c .match .keys25
 
 at-requires-25 : tie.Need-at-requires-25
 at-requires-25 c κs = tt
 
 enum-told-16 : tie.Need-enum-told-16
-enum-told-16 c = search needs
+enum-told-16 c = c .match .keys26
 
 at-requires-26 : tie.Need-at-requires-26
 at-requires-26 c κs = tt
 
 enum-told-17 : tie.Need-enum-told-17
-enum-told-17 c = search needs
+enum-told-17 c = c .match .keys27
 
 at-requires-27 : tie.Need-at-requires-27
 at-requires-27 c κs = tt
 
 enum-told-18 : tie.Need-enum-told-18
-enum-told-18 c = search needs
+enum-told-18 c = c .match .keys28
 
 at-requires-28 : tie.Need-at-requires-28
 at-requires-28 c κs = tt
 
 enum-told-19 : tie.Need-enum-told-19
-enum-told-19 c = search needs
+enum-told-19 c = c .match .keys29
 
 at-requires-29 : tie.Need-at-requires-29
 at-requires-29 c κs = tt
 
 enum-told-20 : tie.Need-enum-told-20
-enum-told-20 c = search needs
+enum-told-20 c = c .match .keys30
 
 at-requires-30 : tie.Need-at-requires-30
 at-requires-30 c κs = tt
