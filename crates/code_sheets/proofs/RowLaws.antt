@@ -5,10 +5,12 @@ use Prim.Native.Nat.{ℕ, zero, suc, _+_, _*_, _/_, _%_, _^_, _≤_, _<_}
 use native.Mathlib.Nat.{div-one, not-suc-le-zero, le-of-suc-le-suc}
 use native.Mathlib.Numerals.{add-one}
 use native.Mathlib.Omega.{arith}
-use lib.ListN.{length, take, drop, getD, length-append, take-append-drop}
+use lib.ListN.{length, take, drop, getD, length-append}
 use lib.Pow.{shr-shr}
-use lib.Seq.{take-at, take-suc, drop-append-add, drop-nil, drop-cons, drop-drop, length-take-le}
+use lib.Seq.{take-at, take-suc, drop-append-add, drop-nil, drop-cons, length-take-le}
+use Rattle.sheets.specs.Buffers.{fromPlace}
 use Rattle.sheets.specs.Bytes.{lowBytes}
+use Rattle.sheets.proofs.BufferLaws.{fromPlace-append}
 use Rattle.sheets.proofs.ByteLaws.{length-lowBytes}
 use Rattle.code_sheets.specs.CodeSheets.{rowBytes, sheetLength}
 
@@ -66,8 +68,8 @@ rowBytes-at rows s l =
 -- ------------------------------------------------------------------
 -- Rows written
 
--- One row more
-pub rowBytes-more : (rows : List ℕ) (s : ℕ) → s < length rows
+-- The bytes of one row more
+rowBytes-more : (rows : List ℕ) (s : ℕ) → s < length rows
     → rowBytes (take (s + 1) rows) ≡ rowBytes (take s rows) ++ lowBytes 8 (getD rows s 0)
 unfolding rowBytes
 rowBytes-more rows s l =
@@ -76,46 +78,14 @@ rowBytes-more rows s l =
     ∙ rowBytes-append (take s rows) (getD rows s 0 ∷ [])
     ∙ ap (λ (b : List ℕ). rowBytes (take s rows) ++ b) (append-nil (lowBytes 8 (getD rows s 0)))
 
--- A buffer with so many rows behind the head
-abbrev pub withRows : List ℕ → List ℕ → ℕ → List ℕ
-withRows buffer rows s = take 6 buffer ++ rowBytes (take s rows) ++ drop (sheetLength s) buffer
-
--- Before the first row is stored
-pub withRows-none : (buffer rows : List ℕ) → buffer ≡ withRows buffer rows 0
-unfolding rowBytes
-withRows-none buffer rows =
-    sym (take-append-drop 6 buffer) ∙ sym (ap (λ (b : List ℕ). b ++ drop 6 buffer) (append-nil (take 6 buffer)))
-
-module _ (buffer rows new : List ℕ) (s : ℕ) (room : sheetLength (s + 1) ≤ length buffer) (l : s < length rows)
-    (e : new ≡ withRows buffer rows s) where
-  abbrev front : List ℕ
-  front = take 6 buffer ++ rowBytes (take s rows)
-
-  length-withRows-front : length front ≡ sheetLength s
-  length-withRows-front =
-      length-append (take 6 buffer) (rowBytes (take s rows))
-      ∙ ap₂ (λ (a b : ℕ). a + b) (length-take-le 6 buffer (omega arith))
-      (length-rowBytes (take s rows) ∙ ap (λ (n : ℕ). 8 * n) (length-take-le s rows (omega arith)))
-
-  drop-behind-row : drop (sheetLength s + 8) new ≡ drop (sheetLength (s + 1)) buffer
-  drop-behind-row =
-      ap₂ (λ (n : ℕ) (b : List ℕ). drop (n + 8) b) (sym length-withRows-front) e
-      ∙ drop-append-add front (drop (sheetLength s) buffer) 8
-      ∙ drop-drop 8 (sheetLength s) buffer
-      ∙ ap (λ (n : ℕ). drop n buffer) next
-    where
-      next : sheetLength s + 8 ≡ sheetLength (s + 1)
-      next = omega arith
-
-  row-stored : take (sheetLength s) new ++ lowBytes 8 (getD rows s 0) ++ drop (sheetLength s + 8) new ≡ withRows buffer rows (s + 1)
-  row-stored =
-      ap₂ (λ (a b : List ℕ). a ++ lowBytes 8 (getD rows s 0) ++ b)
-      (ap (take (sheetLength s)) e ∙ take-at front (drop (sheetLength s) buffer) (sheetLength s) length-withRows-front) drop-behind-row
-      ∙ ap (λ (b : List ℕ). b ++ drop (sheetLength (s + 1)) buffer)
-      (append-assoc (take 6 buffer) (rowBytes (take s rows)) (lowBytes 8 (getD rows s 0))
-      ∙ ap (λ (b : List ℕ). take 6 buffer ++ b) (sym (rowBytes-more rows s l)))
-
-  -- One row more is stored at its place
-  pub withRows-more : (place row : ℕ) (after : List ℕ) → place ≡ sheetLength s → row ≡ getD rows s 0
-      → after ≡ take place new ++ lowBytes 8 row ++ drop (place + 8) new → after ≡ withRows buffer rows (s + 1)
-  withRows-more place row after f g h = h ∙ ap₂ (λ (at bits : ℕ). take at new ++ lowBytes 8 bits ++ drop (at + 8) new) f g ∙ row-stored
+-- One row more is stored behind the head and the rows before it
+pub row-stored : (buffer rows written after : List ℕ) (s place row : ℕ) → 6 ≤ length buffer → s < length rows
+    → written ≡ fromPlace 6 (rowBytes (take s rows)) buffer → place ≡ sheetLength s → row ≡ getD rows s 0
+    → after ≡ fromPlace place (lowBytes 8 row) written → after ≡ fromPlace 6 (rowBytes (take (s + 1) rows)) buffer
+row-stored buffer rows written after s place row room l e f g h =
+    let before : place ≡ 6 + length (rowBytes (take s rows)) = omega (arith, f, length-rowBytes (take s rows), length-take-le s rows (omega arith)) in
+    h
+    ∙ ap₂ (λ (at bits : ℕ). fromPlace at (lowBytes 8 bits) written) before g
+    ∙ ap (fromPlace (6 + length (rowBytes (take s rows))) (lowBytes 8 (getD rows s 0))) e
+    ∙ fromPlace-append 6 (rowBytes (take s rows)) (lowBytes 8 (getD rows s 0)) buffer room
+    ∙ ap (λ (b : List ℕ). fromPlace 6 b buffer) (sym (rowBytes-more rows s l))

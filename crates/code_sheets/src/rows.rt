@@ -1,10 +1,10 @@
 // The rows of a code sheet behind its head of 6 bytes, read and written.
 ghost use mathlib.Core.Path.{_≡_};
-ghost use mathlib.Core.List.{_++_};
 ghost use Prim.Native.Nat.{_+_, _≤_, _<_};
 ghost use lib.ListN.{length, take, drop};
 ghost use Rattle.bits.specs.Numerals.{setWidth, numeral, numerals};
 ghost use Rattle.codes.specs.Codes.{rowsOf};
+ghost use Rattle.sheets.specs.Buffers.{fromPlace};
 ghost use Rattle.sheets.specs.Bytes.{lowFirst, lowBytes};
 ghost use Rattle.code_sheets.specs.CodeSheets.{rowBytes, sheetLength, rowIn};
 use bits::BitSet;
@@ -65,7 +65,7 @@ pub fn read_rows(sheet: &[u8], symbols: usize) -> BitSets
 // A row's 8 bytes, low byte first.
 fn write_row(row: BitSet, buffer: &mut [u8], at: usize)
     requires { ⌜ at + 8 ≤ length (now buffer) ⌝ }
-    ensures { λ _. ⌜ now (buffer .exit) ≡ take at (now (buffer .entry)) ++ lowBytes 8 (numeral row) ++ drop (at + 8) (now (buffer .entry)) ⌝ }
+    ensures { λ _. ⌜ now (buffer .exit) ≡ fromPlace at (lowBytes 8 (numeral row)) (now (buffer .entry)) ⌝ }
 {
     let mut i = 0;
     while i < 8 {
@@ -77,7 +77,7 @@ fn write_row(row: BitSet, buffer: &mut [u8], at: usize)
 // N rows of 8 bytes behind the head.
 pub fn write_rows(rows: BitSets, symbols: usize, buffer: &mut [u8])
     requires { ⌜ (symbols ≤ setWidth) × (sheetLength symbols ≤ length (now buffer)) ⌝ }
-    ensures { λ _. ⌜ now (buffer .exit) ≡ take 6 (now (buffer .entry)) ++ rowBytes (take symbols (numerals rows)) ++ drop (sheetLength symbols) (now (buffer .entry)) ⌝ }
+    ensures { λ _. ⌜ now (buffer .exit) ≡ fromPlace 6 (rowBytes (take symbols (numerals rows))) (now (buffer .entry)) ⌝ }
 {
     let mut symbol = 0;
     while symbol < symbols {

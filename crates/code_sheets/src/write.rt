@@ -1,8 +1,7 @@
 // The bytes of a code's sheet.
 ghost use mathlib.Core.Path.{_≡_};
-ghost use mathlib.Core.List.{_++_};
 ghost use Prim.Native.Nat.{_≤_};
-ghost use lib.ListN.{length, take, drop};
+ghost use lib.ListN.{length, take};
 ghost use Rattle.codes.specs.Codes.{linear, WithinLimits};
 ghost use Rattle.sheets.specs.Buffers.{atFront};
 ghost use Rattle.code_sheets.specs.CodeSheets.{codeSheet};
@@ -12,7 +11,7 @@ use codes::Code;
 // One byte 4, then edition 1, n, r, K, one byte each; one byte N.
 fn write_head(code: Code, buffer: &mut [u8])
     requires { ⌜ WithinLimits (linear code) × (6 ≤ length (now buffer)) ⌝ }
-    ensures { λ _. ⌜ now (buffer .exit) ≡ take 6 (codeSheet (linear code)) ++ drop 6 (now (buffer .entry)) ⌝ }
+    ensures { λ _. ⌜ now (buffer .exit) ≡ atFront (take 6 (codeSheet (linear code))) (now (buffer .entry)) ⌝ }
 {
     let layout = code.layout;
     let symbols = layout.symbols();

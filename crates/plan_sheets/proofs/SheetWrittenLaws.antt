@@ -3,12 +3,11 @@ use mathlib.Core.Path.{_≡_, sym, ap, ap₂, _∙_}
 use mathlib.Core.Bool.{Bool, true, false, cond}
 use mathlib.Core.List.{List, [], _∷_, _++_, append-assoc, append-nil}
 use Prim.Native.Nat.{ℕ, _+_, _-_, _/_, _%_, _≤_, _<_}
-use native.Mathlib.Nat.{add-zero}
 use borrow.Author.Tests.{ne-eqb}
 use native.Mathlib.Omega.{arith}
 use lib.Dec.{eqb}
-use lib.ListN.{length, getD, set, take, drop, length-drop, take-append-drop}
-use lib.Seq.{sets, sets-eq, drop-at, drop-length, take-suc-set, drop-set-lt, drop-drop, length-take-le}
+use lib.ListN.{length, getD, set, take, drop, length-append, length-drop}
+use lib.Seq.{sets, sets-eq, drop-at, drop-length, drop-drop, length-take-le}
 use borrow.Rule.Slice.PartMut.{putMid, post-is}
 use Rattle.bits.specs.BitSets.{count}
 use Rattle.bits.specs.Numerals.{setWidth}
@@ -16,11 +15,11 @@ use Rattle.bits.proofs.BitSetLaws.{count-le}
 use Rattle.codes.specs.Layouts.{symbolsOf}
 use Rattle.codes.specs.declared.Layout.{Layout}
 use Rattle.gf2.specs.declared.Step.{Step}
-use Rattle.sheets.specs.Buffers.{atFront}
+use Rattle.sheets.specs.Buffers.{atFront, fromPlace}
 use Rattle.sheets.specs.Bytes.{counted}
-use Rattle.sheets.proofs.BufferLaws.{front-grows}
+use Rattle.sheets.proofs.BufferLaws.{fromPlace-nothing, fromPlace-append, atFront-append}
 use Rattle.sheets.proofs.PartLaws.{part-to-end}
-use Rattle.plan_sheets.specs.PlanSheets.{PlanHead, firstCount, wantedCountAt, stepsAt, headLength, stepsLength, sheetLength}
+use Rattle.plan_sheets.specs.PlanSheets.{PlanHead, firstCount, wantedCountAt, stepsAt, headLength, sheetLength}
 use Rattle.plan_sheets.specs.InnerPlanSheets.{firstNumbers, diskBytes, wantedBytes, sectionsOf, EditionFits, First, Second, Third, planHead, headFor, stepsBytes, planSheet, withSteps, subsetPlan, sourceCount, StepsWritable, Tells, PlanFits}
 use Rattle.plan_sheets.proofs.ReadBackLaws.{length-upToDisks, length-upToLists, length-planHead, length-planSheet}
 use Rattle.plan_sheets.proofs.StepsWrittenLaws.{count-is-sourceCount}
@@ -43,25 +42,23 @@ module _ (edition reads : ℕ) (failed buffer : List ℕ) where
 
   -- Edition 3: the read count is stored, then the list of disks
   pub disks-stored-third : edition ≡ 3 → 5 + length (diskBytes edition reads failed) ≤ length buffer → {written : List ℕ}
-      → written ≡ take 6 (set buffer 5 reads) ++ counted failed ++ drop (6 + 1 + length failed) (set buffer 5 reads)
-      → written ≡ take 5 buffer ++ diskBytes edition reads failed ++ drop (5 + length (diskBytes edition reads failed)) buffer
+      → written ≡ fromPlace 6 (counted failed) (set buffer 5 reads) → written ≡ fromPlace 5 (diskBytes edition reads failed) buffer
   disks-stored-third e room f =
       let is-third : (reads ∷ counted failed) ≡ diskBytes edition reads failed = rw e in
-      let size : 6 + 1 + length failed ≡ 5 + length (reads ∷ counted failed) = omega arith in
       let long : 6 ≤ length buffer = omega (arith, room, ap {B = ℕ} length is-third) in
       f
-      ∙ ap₂ (λ (a b : List ℕ). a ++ counted failed ++ b) (take-suc-set buffer 5 reads (omega arith)) (drop-set-lt (6 + 1 + length failed) buffer 5 reads (omega arith))
-      ∙ ap₂ (λ (a : List ℕ) (n : ℕ). a ++ drop n buffer) (append-assoc (take 5 buffer) (reads ∷ []) (counted failed)) size
-      ∙ ap (λ (b : List ℕ). take 5 buffer ++ b ++ drop (5 + length b) buffer) is-third
+      ∙ ap (fromPlace 6 (counted failed)) (sets-eq (reads ∷ []) buffer 5 long)
+      ∙ fromPlace-append 5 (reads ∷ []) (counted failed) buffer (omega arith)
+      ∙ ap (λ (b : List ℕ). fromPlace 5 b buffer) is-third
 
   -- Editions 1 and 2: the disk, then the read count
   pub disks-stored-one : (edition ≡ 3 → ⊥) → 5 + length (diskBytes edition reads failed) ≤ length buffer → {disk : ℕ} → disk ≡ getD failed 0 0
-      → set (set buffer 5 disk) 6 reads ≡ take 5 buffer ++ diskBytes edition reads failed ++ drop (5 + length (diskBytes edition reads failed)) buffer
+      → set (set buffer 5 disk) 6 reads ≡ fromPlace 5 (diskBytes edition reads failed) buffer
   disks-stored-one other room {disk} disk-is =
       let is-one : (getD failed 0 0 ∷ reads ∷ []) ≡ diskBytes edition reads failed = rw (ne-eqb edition 3 other) in
       ap (λ (d : ℕ). set (set buffer 5 d) 6 reads) disk-is
       ∙ sets-eq (getD failed 0 0 ∷ reads ∷ []) buffer 5 (omega (arith, room, ap {B = ℕ} length is-one))
-      ∙ ap (λ (b : List ℕ). take 5 buffer ++ b ++ drop (5 + length b) buffer) is-one
+      ∙ ap (λ (b : List ℕ). fromPlace 5 b buffer) is-one
 
 -- The wanted symbols have room behind their number
 pub room-wanted : (edition : ℕ) (wanted : List ℕ) → (edition ≡ 1 → ⊥) → length (wantedBytes edition wanted) ≡ 1 + length wanted
@@ -69,42 +66,35 @@ room-wanted edition wanted other = rw (ne-eqb edition 1 other) (omega arith)
 
 module _ (edition : ℕ) (wanted : List ℕ) (at : ℕ) (buffer : List ℕ) where
   -- Edition 1 has no list: the buffer is as it was
-  pub wanted-stored-none : edition ≡ 1 → buffer ≡ take at buffer ++ wantedBytes edition wanted ++ drop (at + length (wantedBytes edition wanted)) buffer
-  wanted-stored-none e =
-      rw e (sym (ap₂ (λ (b : List ℕ) (n : ℕ). b ++ drop n buffer) (append-nil (take at buffer)) (add-zero at) ∙ take-append-drop at buffer))
+  pub wanted-stored-none : edition ≡ 1 → buffer ≡ fromPlace at (wantedBytes edition wanted) buffer
+  wanted-stored-none e = rw e (fromPlace-nothing at buffer)
 
   -- Any other has the list
-  pub wanted-stored : (edition ≡ 1 → ⊥) → {written : List ℕ} → written ≡ take at buffer ++ counted wanted ++ drop (at + 1 + length wanted) buffer
-      → written ≡ take at buffer ++ wantedBytes edition wanted ++ drop (at + length (wantedBytes edition wanted)) buffer
+  pub wanted-stored : (edition ≡ 1 → ⊥) → {written : List ℕ} → written ≡ fromPlace at (counted wanted) buffer
+      → written ≡ fromPlace at (wantedBytes edition wanted) buffer
   wanted-stored other e =
       let is-listed : counted wanted ≡ wantedBytes edition wanted = rw (ne-eqb edition 1 other) in
-      let size : at + 1 + length wanted ≡ at + length (counted wanted) = omega arith in
-      e
-      ∙ ap (λ (n : ℕ). take at buffer ++ counted wanted ++ drop n buffer) size
-      ∙ ap (λ (b : List ℕ). take at buffer ++ b ++ drop (at + length b) buffer) is-listed
+      e ∙ ap (λ (b : List ℕ). fromPlace at b buffer) is-listed
 
 -- The numbers, the disks, the wanted symbols and the step count are the head
 pub head-stored : (head : PlanHead) (failed wanted : List ℕ) (steps : ℕ) (lent : List ℕ) → EditionFits (head .edition) failed wanted
-    → headLength (sectionsOf (head .edition) failed wanted) ≤ length lent
-    → {first second third : List ℕ} {listed at : ℕ} → first ≡ atFront (firstNumbers head) lent
-    → second ≡ take 5 first ++ diskBytes (head .edition) (head .reads) failed ++ drop (5 + length (diskBytes (head .edition) (head .reads) failed)) first
-    → listed ≡ wantedCountAt (head .edition) (length failed)
-    → third ≡ take listed second ++ wantedBytes (head .edition) wanted ++ drop (listed + length (wantedBytes (head .edition) wanted)) second
-    → at ≡ stepsAt (sectionsOf (head .edition) failed wanted)
-    → {written : List ℕ} → written ≡ take at third ++ (steps % 256 ∷ steps / 256 ∷ []) ++ drop (at + 2) third
+    → {first second third written : List ℕ} {listed at : ℕ} → first ≡ atFront (firstNumbers head) lent
+    → second ≡ fromPlace 5 (diskBytes (head .edition) (head .reads) failed) first
+    → listed ≡ wantedCountAt (head .edition) (length failed) → third ≡ fromPlace listed (wantedBytes (head .edition) wanted) second
+    → at ≡ stepsAt (sectionsOf (head .edition) failed wanted) → written ≡ fromPlace at (steps % 256 ∷ steps / 256 ∷ []) third
     → written ≡ atFront (planHead head failed wanted steps) lent
 unfolding planHead
-head-stored head failed wanted steps lent fits room {first} {second} {third} {listed} {at} e f listed-is g place h =
+head-stored head failed wanted steps lent fits {second = second} {third} {listed = listed} {at} e f listed-is g place h =
+    let numbers = firstNumbers head in
     let disks = diskBytes (head .edition) (head .reads) failed in
     let symbols = wantedBytes (head .edition) wanted in
     let last = steps % 256 ∷ steps / 256 ∷ [] in
-    let grown : second ≡ atFront (firstNumbers head ++ disks) lent = front-grows (firstNumbers head) disks lent e f in
-    let behind : listed ≡ length (firstNumbers head ++ disks) = listed-is ∙ sym (length-upToDisks head failed wanted fits) in
-    let grown-more : third ≡ atFront (firstNumbers head ++ disks ++ symbols) lent =
-    front-grows (firstNumbers head ++ disks) symbols lent grown (g ∙ ap (λ (n : ℕ). take n second ++ symbols ++ drop (n + length symbols) second) behind) in
-    let long : at ≡ length (firstNumbers head ++ disks ++ symbols) = place ∙ sym (length-upToLists head failed wanted fits) in
-    front-grows (firstNumbers head ++ disks ++ symbols) last lent grown-more
-    (h ∙ ap (λ (n : ℕ). take n third ++ last ++ drop (n + 2) third) long)
+    let with-disks : second ≡ atFront (numbers ++ disks) lent = f ∙ ap (fromPlace 5 disks) e ∙ atFront-append numbers disks lent in
+    let behind : listed ≡ length (numbers ++ disks) = listed-is ∙ sym (length-upToDisks head failed wanted fits) in
+    let with-lists : third ≡ atFront (numbers ++ disks ++ symbols) lent =
+    g ∙ ap₂ (λ (n : ℕ) (b : List ℕ). fromPlace n symbols b) behind with-disks ∙ atFront-append (numbers ++ disks) symbols lent in
+    let long : at ≡ length (numbers ++ disks ++ symbols) = place ∙ sym (length-upToLists head failed wanted fits) in
+    h ∙ ap₂ (λ (n : ℕ) (b : List ℕ). fromPlace n last b) long with-lists ∙ atFront-append (numbers ++ disks ++ symbols) last lent
 
 -- ------------------------------------------------------------------
 -- The sheet
@@ -129,14 +119,14 @@ module _ (head : PlanHead) (failed wanted : List ℕ) (fits : EditionFits (head 
   unfolding planSheet withSteps
   sheet-stored lent room {written} {buffer} e g =
       let front = planHead head failed wanted (length plan) in
-      let behind = drop (stepsLength (0 + length plan)) (drop start lent) in
+      let behind = drop (0 + length (stepsBytes plan)) (drop start lent) in
       let long : start ≡ length front = place ∙ sym (length-planHead head failed wanted fits (length plan)) in
-      let whole : start + stepsLength (0 + length plan) ≡ length (front ++ stepsBytes plan) = omega (arith, place, length-planSheet head failed wanted fits plan) in
+      let whole : start + (0 + length (stepsBytes plan)) ≡ length (front ++ stepsBytes plan) = omega (arith, long, length-append front (stepsBytes plan)) in
       g
       ∙ ap₂ (λ (n : ℕ) (b : List ℕ). atFront (planHead head failed wanted n) b) steps-are e
       ∙ ap (λ (b : List ℕ). front ++ b) (drop-at (take start lent) (stepsBytes plan ++ behind) (length front) (length-take-le start lent (omega (arith, place, room)) ∙ long))
       ∙ sym (append-assoc front (stepsBytes plan) behind)
-      ∙ ap (λ (b : List ℕ). front ++ stepsBytes plan ++ b) (drop-drop (stepsLength (0 + length plan)) start lent ∙ ap (λ (n : ℕ). drop n lent) whole)
+      ∙ ap (λ (b : List ℕ). front ++ stepsBytes plan ++ b) (drop-drop (0 + length (stepsBytes plan)) start lent ∙ ap (λ (n : ℕ). drop n lent) whole)
 
 -- ------------------------------------------------------------------
 -- What is told of the steps

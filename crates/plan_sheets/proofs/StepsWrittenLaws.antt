@@ -1,15 +1,15 @@
 -- Laws of steps as they are written into a buffer, one after the other, and of the symbols that they read. Assumes nothing.
 use mathlib.Core.Path.{_≡_, refl, sym, ap, ap₂, _∙_, subst, fun-ext}
 use mathlib.Core.Bool.{Bool, true, false, cond, _||_, or-assoc, or-false}
-use mathlib.Core.List.{List, [], _∷_, _++_, append-assoc, append-nil}
+use mathlib.Core.List.{List, [], _∷_, _++_, append-nil}
 use Prim.Native.Nat.{ℕ, suc, _+_, _-_, _^_, _≤_, _<_}
-use native.Mathlib.Nat.{add-zero, sub-zero}
+use native.Mathlib.Nat.{sub-zero}
 use native.Mathlib.Numerals.{add-one}
 use native.Mathlib.Omega.{arith}
 use lib.Bits.{bitOr, or-lt}
-use lib.ListN.{length, getD, set, take, drop, length-append, length-drop, take-append-drop}
+use lib.ListN.{length, getD, set, length-append}
 use lib.Pow.{pow-pos}
-use lib.Seq.{sets-eq, take-at, drop-append-add, drop-drop, length-take-le}
+use lib.Seq.{sets-eq}
 use Rattle.bits.specs.BitSets.{has, count}
 use Rattle.bits.specs.Lists.{symbolsIn, countFrom}
 use Rattle.bits.proofs.Booleans.{bool-cases}
@@ -20,6 +20,8 @@ use Rattle.gf2.specs.InnerSubsetPlans.{addAll, fillFrom, planOf}
 use Rattle.gf2.specs.declared.Step.{Step}
 use Rattle.gf2.specs.declared.Step.the-variants.{Clear, Copy, Add}
 use Rattle.gf2.proofs.SourceLaws.{readByAny-append, fill-reads-subset}
+use Rattle.sheets.specs.Buffers.{fromPlace}
+use Rattle.sheets.proofs.BufferLaws.{fromPlace-nothing, length-fromPlace, fromPlace-append}
 use Rattle.plan_sheets.specs.PlanSheets.{stepsLength}
 use Rattle.plan_sheets.specs.InnerPlanSheets.{stepBytes, stepsBytes, withSteps, StepsFit, planFor, subsetPlan, sourceCount, Tells}
 use Rattle.plan_sheets.proofs.ReadBackLaws.{length-stepsBytes, stepsBytes-append}
@@ -30,75 +32,42 @@ use Rattle.plan_sheets.proofs.ReadBackLaws.{length-stepsBytes, stepsByt
 -- Three stores are the bytes of one step
 pub bytes-stored : (buffer : List ℕ) (number kind target source : ℕ) → stepsLength (number + 1) ≤ length buffer
     → set (set (set buffer (stepsLength number) kind) (stepsLength number + 1) target) (stepsLength number + 2) source
-    ≡ take (stepsLength number) buffer ++ (kind ∷ target ∷ source ∷ []) ++ drop (stepsLength (number + 1)) buffer
+    ≡ fromPlace (stepsLength number) (kind ∷ target ∷ source ∷ []) buffer
 bytes-stored buffer number kind target source room =
     let at = stepsLength number in
     let third : at + 2 ≡ suc (suc at) = omega arith in
-    let next : at + 3 ≡ stepsLength (number + 1) = omega arith in
     ap₂ (λ (m n : ℕ). set (set (set buffer at kind) m target) n source) (add-one at) third
     ∙ sets-eq (kind ∷ target ∷ source ∷ []) buffer at (omega arith)
-    ∙ ap (λ (n : ℕ). take at buffer ++ (kind ∷ target ∷ source ∷ []) ++ drop n buffer) next
 
 -- Which is the buffer with that step
 pub step-stored : (buffer : List ℕ) (number : ℕ) (step decoded : Step) → step ≡ decoded
-    → take (stepsLength number) buffer ++ stepBytes decoded ++ drop (stepsLength (number + 1)) buffer ≡ withSteps buffer number (step ∷ [])
+    → fromPlace (stepsLength number) (stepBytes decoded) buffer ≡ withSteps buffer number (step ∷ [])
 unfolding withSteps stepsBytes
 step-stored buffer number step decoded e =
-    ap (λ (b : List ℕ). take (stepsLength number) buffer ++ b ++ drop (stepsLength (number + 1)) buffer)
+    ap (λ (b : List ℕ). fromPlace (stepsLength number) b buffer)
     (sym (append-nil (stepBytes decoded)) ∙ ap (λ (p : Step). stepBytes p ++ []) (sym e))
 
 -- No steps leave the buffer as it is
-pub withSteps-none : (buffer : List ℕ) (number : ℕ) → withSteps buffer number [] ≡ buffer
+withSteps-none : (buffer : List ℕ) (number : ℕ) → buffer ≡ withSteps buffer number []
 unfolding withSteps stepsBytes
-withSteps-none buffer number =
-    ap₂ (λ (front : List ℕ) (n : ℕ). front ++ drop (stepsLength n) buffer) (append-nil (take (stepsLength number) buffer)) (add-zero number)
-    ∙ take-append-drop (stepsLength number) buffer
+withSteps-none buffer number = fromPlace-nothing (stepsLength number) buffer
 
-module _ (buffer : List ℕ) (number : ℕ) (room : stepsLength number ≤ length buffer) (xs ys : List Step) where
-  abbrev front : List ℕ
-  front = take (stepsLength number) buffer ++ stepsBytes xs
-
-  length-withSteps-front : length front ≡ stepsLength (number + length xs)
-  length-withSteps-front =
-      omega (
-        arith,
-        length-append (take (stepsLength number) buffer) (stepsBytes xs),
-        length-take-le (stepsLength number) buffer room,
-        length-stepsBytes xs,
-      )
-
-  drop-behind-steps : drop (stepsLength (number + length xs + length ys)) (front ++ drop (stepsLength (number + length xs)) buffer)
-      ≡ drop (stepsLength (number + length (xs ++ ys))) buffer
-  drop-behind-steps =
-      let behind : stepsLength (number + length xs + length ys) ≡ length front + stepsLength (length ys) = omega (arith, length-withSteps-front) in
-      let last : stepsLength (number + length xs) + stepsLength (length ys) ≡ stepsLength (number + length (xs ++ ys)) = omega (arith, length-append xs ys) in
-      ap (λ (n : ℕ). drop n (front ++ drop (stepsLength (number + length xs)) buffer)) behind
-      ∙ drop-append-add front (drop (stepsLength (number + length xs)) buffer) (stepsLength (length ys))
-      ∙ drop-drop (stepsLength (length ys)) (stepsLength (number + length xs)) buffer
-      ∙ ap (λ (n : ℕ). drop n buffer) last
-
-  -- Steps and others behind them are written one after the other
-  pub withSteps-append : withSteps (withSteps buffer number xs) (number + length xs) ys ≡ withSteps buffer number (xs ++ ys)
-  unfolding withSteps
-  withSteps-append =
-      ap₂ (λ (a b : List ℕ). a ++ stepsBytes ys ++ b)
-      (take-at front (drop (stepsLength (number + length xs)) buffer) (stepsLength (number + length xs)) length-withSteps-front) drop-behind-steps
-      ∙ ap (λ (b : List ℕ). b ++ drop (stepsLength (number + length (xs ++ ys))) buffer)
-      (append-assoc (take (stepsLength number) buffer) (stepsBytes xs) (stepsBytes ys)
-      ∙ ap (λ (b : List ℕ). take (stepsLength number) buffer ++ b) (sym (stepsBytes-append xs ys)))
+-- Steps and others behind them are written one after the other
+withSteps-append : (buffer : List ℕ) (number : ℕ) → stepsLength number ≤ length buffer → (xs ys : List Step)
+    → withSteps (withSteps buffer number xs) (number + length xs) ys ≡ withSteps buffer number (xs ++ ys)
+unfolding withSteps
+withSteps-append buffer number room xs ys =
+    let at = stepsLength number in
+    let behind : stepsLength (number + length xs) ≡ at + length (stepsBytes xs) = omega (arith, length-stepsBytes xs) in
+    ap (λ (n : ℕ). fromPlace n (stepsBytes ys) (fromPlace at (stepsBytes xs) buffer)) behind
+    ∙ fromPlace-append at (stepsBytes xs) (stepsBytes ys) buffer room
+    ∙ ap (λ (b : List ℕ). fromPlace at b buffer) (sym (stepsBytes-append xs ys))
 
 -- The buffer keeps its length
 length-withSteps : (buffer : List ℕ) (number : ℕ) (steps : List Step) → stepsLength (number + length steps) ≤ length buffer
     → length (withSteps buffer number steps) ≡ length buffer
 unfolding withSteps
-length-withSteps buffer number steps room =
-    let behind = drop (stepsLength (number + length steps)) buffer in
-    omega (
-      arith,
-      length-append (take (stepsLength number) buffer ++ stepsBytes steps) behind,
-      length-withSteps-front buffer number (omega arith) steps [],
-      length-drop (stepsLength (number + length steps)) buffer,
-    )
+length-withSteps buffer number steps room = length-fromPlace (stepsLength number) (stepsBytes steps) buffer (omega (arith, length-stepsBytes steps))
 
 -- ------------------------------------------------------------------
 -- Some steps written and the rest to come
@@ -141,7 +110,7 @@ module _ {lent : List ℕ} {start : ℕ} {all : List Step} {buffer : List ℕ} {
 
   -- None is left
   pub remaining-none : Remaining lent start all buffer number [] → (number ≡ start + length all) × (buffer ≡ withSteps lent start all)
-  remaining-none reached = (omega (arith, reached .same-end), sym (withSteps-none buffer number) ∙ reached .same-buffer)
+  remaining-none reached = (omega (arith, reached .same-end), withSteps-none buffer number ∙ reached .same-buffer)
 
 -- ------------------------------------------------------------------
 -- The steps for one target

@@ -4,7 +4,7 @@ use mathlib.Core.Bool.{Bool, cond}
 use mathlib.Core.List.{List, [], _∷_, _++_}
 use Prim.Native.Nat.{ℕ, _+_, _/_, _%_, _^_, _≤_, _<_}
 use lib.Dec.{eqb}
-use lib.ListN.{length, getD, take, drop}
+use lib.ListN.{length, getD}
 use Rattle.bits.specs.BitSets.{has}
 use Rattle.bits.specs.Lists.{symbolsIn, countFrom}
 use Rattle.bits.specs.Numerals.{setWidth}
@@ -15,6 +15,7 @@ use Rattle.gf2.specs.InnerSubsetPlans.{planOf}
 use Rattle.gf2.specs.Plans.{readByAny}
 use Rattle.gf2.specs.declared.Step.{Step}
 use Rattle.gf2.specs.declared.Step.the-variants.{Clear, Copy, Add}
+use Rattle.sheets.specs.Buffers.{fromPlace}
 use Rattle.sheets.specs.Bytes.{counted}
 use Rattle.plan_sheets.specs.PlanSheets.{PlanHead, ListPlace, Sections, firstCount, sectionsFor, headLength, stepLimit, stepsLength, sheetLength}
 
@@ -106,8 +107,7 @@ planSheet head failed wanted steps = planHead head failed wanted (length steps) 
 
 -- The part of a buffer behind the head, with steps written from step `number` on; all other bytes stay
 unfoldable pub withSteps : List ℕ → ℕ → List Step → List ℕ
-withSteps buffer number steps =
-    take (stepsLength number) buffer ++ stepsBytes steps ++ drop (stepsLength (number + length steps)) buffer
+withSteps buffer number steps = fromPlace (stepsLength number) (stepsBytes steps) buffer
 
 -- So many steps, no more than the limit, lie within so many bytes
 pub record StepsWithin (count bytes : ℕ) : Type 0 where

@@ -1,9 +1,8 @@
 // The head of a plan sheet: its first section, the lists of failed disks and of wanted symbols, and the step count.
 ghost use mathlib.Core.Path.{_≡_};
-ghost use mathlib.Core.List.{_++_};
 ghost use Prim.Native.Nat.{_+_, _≤_, _<_};
-ghost use lib.ListN.{length, take, drop};
-ghost use Rattle.sheets.specs.Buffers.{atFront};
+ghost use lib.ListN.{length};
+ghost use Rattle.sheets.specs.Buffers.{atFront, fromPlace};
 ghost use Rattle.plan_sheets.specs.PlanSheets.{readsAt, headIn, sectionsFor, wantedCountAt, sectionsIn, stepsAt, headLength, sheetLength, stepCountAt, listAt};
 ghost use Rattle.plan_sheets.specs.InnerPlanSheets.{firstNumbers, diskBytes, wantedBytes, SmallPlace, SmallSections, planHead, HeadOfBytes, HeadWritable};
 use sheets::byte_at;
@@ -179,7 +178,7 @@ fn write_numbers(head: PlanHead, buffer: &mut [u8])
 // The failed disk and the read count behind the first numbers; in edition 3 the read count and the list of disks.
 fn write_disks(edition: usize, reads: usize, failed: &[u8], buffer: &mut [u8])
     requires { ⌜ (reads < 256) × (length (now failed) < 256) × (5 + length (diskBytes edition reads (now failed)) ≤ length (now buffer)) ⌝ }
-    ensures { λ _. ⌜ now (buffer .exit) ≡ take 5 (now (buffer .entry)) ++ diskBytes edition reads (now (failed .entry)) ++ drop (5 + length (diskBytes edition reads (now (failed .entry)))) (now (buffer .entry)) ⌝ }
+    ensures { λ _. ⌜ now (buffer .exit) ≡ fromPlace 5 (diskBytes edition reads (now (failed .entry))) (now (buffer .entry)) ⌝ }
 {
     if edition == 3 {
         buffer[5] = reads as u8;
@@ -193,7 +192,7 @@ fn write_disks(edition: usize, reads: usize, failed: &[u8], buffer: &mut [u8])
 // The list of wanted symbols from a place on, which edition 1 does not have.
 fn write_wanted(edition: usize, wanted: &[u8], at: usize, buffer: &mut [u8])
     requires { ⌜ (length (now wanted) < 256) × (at < 519) × (at + length (wantedBytes edition (now wanted)) ≤ length (now buffer)) ⌝ }
-    ensures { λ _. ⌜ now (buffer .exit) ≡ take at (now (buffer .entry)) ++ wantedBytes edition (now (wanted .entry)) ++ drop (at + length (wantedBytes edition (now (wanted .entry)))) (now (buffer .entry)) ⌝ }
+    ensures { λ _. ⌜ now (buffer .exit) ≡ fromPlace at (wantedBytes edition (now (wanted .entry))) (now (buffer .entry)) ⌝ }
 {
     if edition == 1 {
         return;

@@ -1,9 +1,10 @@
 // A step of a plan sheet: 3 bytes, its kind, its target and its source.
 ghost use mathlib.Core.Path.{_≡_};
-ghost use mathlib.Core.List.{[], _∷_, _++_};
+ghost use mathlib.Core.List.{[], _∷_};
 ghost use Prim.Native.Nat.{_+_, _<_};
-ghost use lib.ListN.{length, take, drop};
+ghost use lib.ListN.{length};
 ghost use Rattle.gf2.specs.Plans.{NamesBelow};
+ghost use Rattle.sheets.specs.Buffers.{fromPlace};
 ghost use Rattle.plan_sheets.specs.PlanSheets.{stepOf, stepsLength, stepAt};
 ghost use Rattle.plan_sheets.specs.InnerPlanSheets.{withSteps, StepsWithin, StepsFit};
 use gf2::Step;
@@ -47,7 +48,7 @@ pub fn decoded(step: SheetStep) -> Step
 // The 3 bytes of step `number`, in the part of the buffer behind the head.
 fn write_bytes(kind: usize, target: usize, source: usize, number: usize, buffer: &mut [u8])
     requires { ⌜ (kind < 256) × (target < 256) × (source < 256) × StepsWithin (number + 1) (length (now buffer)) ⌝ }
-    ensures { λ _. ⌜ now (buffer .exit) ≡ take (stepsLength number) (now (buffer .entry)) ++ (kind ∷ target ∷ source ∷ []) ++ drop (stepsLength (number + 1)) (now (buffer .entry)) ⌝ }
+    ensures { λ _. ⌜ now (buffer .exit) ≡ fromPlace (stepsLength number) (kind ∷ target ∷ source ∷ []) (now (buffer .entry)) ⌝ }
 {
     let at = 3 * number;
     buffer[at] = kind as u8;

@@ -1,13 +1,14 @@
 -- Laws of a list behind its count, stored one entry after the other. Assumes nothing.
-use mathlib.Core.Path.{_≡_, refl, ap, ap₂, _∙_}
-use mathlib.Core.List.{List, [], _∷_, _++_, append-assoc}
+use mathlib.Core.Path.{_≡_, refl, ap, _∙_}
+use mathlib.Core.List.{List, [], _∷_}
 use Prim.Native.Nat.{ℕ, _+_, _≤_, _<_}
-use native.Mathlib.Numerals.{add-one}
 use native.Mathlib.Omega.{arith}
-use lib.ListN.{length, getD, set, take, drop, length-set}
-use lib.Seq.{paste, length-paste, take-length, take-suc-set, drop-set-lt}
-use Rattle.bits.proofs.StoreLaws.{stored-more}
+use lib.ListN.{length, getD, set, length-set}
+use lib.Seq.{paste, length-paste, sets-eq}
+use Rattle.bits.proofs.StoreLaws.{stored-more, stored-all}
+use Rattle.sheets.specs.Buffers.{fromPlace}
 use Rattle.sheets.specs.Bytes.{counted}
+use Rattle.sheets.proofs.BufferLaws.{fromPlace-append}
 
 -- A buffer with the count of a list at a place and its first entries behind it
 abbrev pub withEntries : List ℕ → ℕ → List ℕ → ℕ → List ℕ
@@ -28,10 +29,8 @@ module _ (list : List ℕ) (at : ℕ) (buffer : List ℕ) (room : at + 1 + lengt
 
   -- All are: the count and the list stand there
   pub list-stored : {written : List ℕ} {i : ℕ} → written ≡ withEntries list at buffer i → i ≡ length list
-      → written ≡ take at buffer ++ counted list ++ drop (at + 1 + length list) buffer
-  list-stored e all =
-      e
-      ∙ ap (withEntries list at buffer) all
-      ∙ ap₂ (λ (a b : List ℕ). a ++ b ++ drop (at + 1 + length list) (set buffer at (length list)))
-      (ap (λ (n : ℕ). take n (set buffer at (length list))) (add-one at) ∙ take-suc-set buffer at (length list) (omega arith)) (take-length list)
-      ∙ ap₂ (λ (a b : List ℕ). a ++ b) (append-assoc (take at buffer) (length list ∷ []) list) (drop-set-lt (at + 1 + length list) buffer at (length list) (omega arith))
+      → written ≡ fromPlace at (counted list) buffer
+  list-stored {written} {i} e all =
+      stored-all (set buffer at (length list)) list (at + 1) (omega (arith, length-set buffer at (length list))) written i all e
+      ∙ ap (fromPlace (at + 1) list) (sets-eq (length list ∷ []) buffer at (omega arith))
+      ∙ fromPlace-append at (length list ∷ []) list buffer (omega arith)

@@ -1,9 +1,8 @@
 -- `code_sheets::rows::write_row` meets its contract. The invariant: the bytes passed are stored. Assumes nothing.
-use mathlib.Core.Path.{_≡_, refl, sym, ap, _∙_}
-use mathlib.Core.List.{_++_}
-use Prim.Native.Nat.{ℕ, _+_, _-_, _≤_}
+use mathlib.Core.Path.{_≡_, refl, sym, _∙_}
+use Prim.Native.Nat.{_-_, _≤_}
 use native.Mathlib.Omega.{arith}
-use lib.ListN.{length, take, drop, length-set}
+use lib.ListN.{length, length-set}
 use lib.Seq.{paste, paste-zero}
 use Rattle.bits.specs.Numerals.{numeral}
 use Rattle.sheets.specs.Bytes.{lowBytes}
@@ -60,7 +59,6 @@ returns c =
     let bytes = lowBytes 8 (numeral (a .row)) in
     let size : length bytes ≡ 8 = length-lowBytes 8 (numeral (a .row)) in
     stored-all (a .buffer .now) bytes (a .at) (omega arith) _ (c .before .loop .i) (omega arith) (c .before .loop .inv .2)
-    ∙ ap (λ (n : ℕ). take (a .at) (a .buffer .now) ++ bytes ++ drop (a .at + n) (a .buffer .now)) size
 
 pub write-row-spec : {M : Type 1} → statement M
 write-row-spec =

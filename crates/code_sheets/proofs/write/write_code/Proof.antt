@@ -34,8 +34,7 @@ returns c =
     let counted = c .before .before .before .before in
     let headed = counted .before .before .before in
     let start = headed .before .before .before .before .before in
-    let within = start .pre .0 in
-    sheet-stored (linear (start .args .code)) (start .args .buffer .now) _ _ _ (counted .symbols .ensures) (omega arith)
+    sheet-stored (linear (start .args .code)) (start .args .buffer .now) _ _ _ (counted .symbols .ensures)
     (headed .write-head .ensures) (c .before .before .write-rows .ensures)
 
 pub write-code-spec : {M : Type 1} → statement M

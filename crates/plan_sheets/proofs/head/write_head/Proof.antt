@@ -63,7 +63,7 @@ returns : tie.Need-returns
 returns c =
     let start = c .before .before .before .before .before .before .before .before .before .before .before .before .before .before .before .before .before .before .before .before .before .before in
     let args = start .args in
-    head-stored (args .head) (args .failed .now) (args .wanted .now) (args .steps) (args .buffer .now) (start .pre .edition-fits) (start .pre .room)
+    head-stored (args .head) (args .failed .now) (args .wanted .now) (args .steps) (args .buffer .now) (start .pre .edition-fits)
     (c .before .before .before .before .before .before .before .before .before .before .before .before .before .before .write-numbers .ensures) (c .before .before .before .before .before .before .before .before .before .before .write-disks .ensures) (c .before .before .before .before .before .before .before .before .before .before .before .before .before .before .before .before .before .before .wanted-count-at .ensures) (c .before .before .before .before .before .before .write-wanted .ensures)
     (count-behind-lists (c .before .before .before .before .before .before .before .before .before .before .before .before .before .before .before .before)) (c .before .before .write-two-bytes .ensures)
 
