@@ -1,2 +1,2 @@
-pub mod InnerStepsWithin
+pub mod InnerStepSymbols
 pub mod InnerPasses

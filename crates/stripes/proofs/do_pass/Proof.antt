@@ -1,7 +1,7 @@
 -- `stripes::do_pass` meets its contract: each kind's loop begins with what the step makes of its target. Assumes nothing.
 use mathlib.Core.Path.{sym, ap, _∙_, subst}
 use lib.ListN.{length}
-use Rattle.stripes.specs.InnerStepsWithin.{StepFits}
+use Rattle.stripes.specs.InnerStepSymbols.{StepSymbolsWithin}
 use Rattle.passes.specs.InnerSources.{listed}
 use Rattle.stripes.proofs.RunLaws.{afterPass}
 use borrow.Author.Needs.{needs}
@@ -14,7 +14,7 @@ enum-known-step c = c .match .keys1
 clear-requires : tie.Need-clear-requires
 clear-requires c κs =
     let start = c .before .before .before .before .before in
-    let fits = subst (StepFits (start .args .size) (length (start .args .stripe .now))) (c .before .before .step .given .1) (start .pre .0) in
+    let fits = subst (StepSymbolsWithin (start .args .size) (length (start .args .stripe .now))) (c .before .before .step .given .1) (start .pre .0) in
     (fits, start .pre .1, start .pre .2)
 
 enum-known-step-2 : tie.Need-enum-known-step-2
@@ -23,7 +23,7 @@ enum-known-step-2 c = c .match .keys2
 copy-requires : tie.Need-copy-requires
 copy-requires c κs =
     let start = c .before .before .before .before .before in
-    let fits = subst (StepFits (start .args .size) (length (start .args .stripe .now))) (c .before .before .step2 .given .1) (start .pre .0) in
+    let fits = subst (StepSymbolsWithin (start .args .size) (length (start .args .stripe .now))) (c .before .before .step2 .given .1) (start .pre .0) in
     (fits .0, fits .1, start .pre .1, start .pre .2)
 
 enum-known-step-3 : tie.Need-enum-known-step-3
@@ -32,7 +32,7 @@ enum-known-step-3 c = c .match .keys3
 add-requires : tie.Need-add-requires
 add-requires c κs =
     let start = c .before .before .before .before .before in
-    let fits = subst (StepFits (start .args .size) (length (start .args .stripe .now))) (c .before .before .step3 .given .1) (start .pre .0) in
+    let fits = subst (StepSymbolsWithin (start .args .size) (length (start .args .stripe .now))) (c .before .before .step3 .given .1) (start .pre .0) in
     (fits .0, fits .1, start .pre .1, start .pre .2)
 
 same-length : tie.Need-same-length
