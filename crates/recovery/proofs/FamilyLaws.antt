@@ -1,12 +1,13 @@
 -- What a computed test shows of families, for every listed parameter. Assumes nothing.
 use mathlib.Core.Path.{_≡_, refl, sym, _∙_, subst}
-use mathlib.Core.Bool.{Bool, true, false, _||_, false≢true}
+use mathlib.Core.Bool.{Bool, true, false, _&&_, _||_, false≢true}
 use Prim.Native.Nat.{ℕ}
 use lib.Dec.{eqb}
 use borrow.Author.Tests.{eqb-true}
 use Rattle.bits.specs.BitSets.{overlap, count, countIn, scale}
 use Rattle.bits.specs.Lists.{tabulate, symbolsIn}
 use Rattle.bits.specs.Numerals.{padded}
+use Rattle.bits.proofs.Booleans.{and-left, and-right}
 use Rattle.codes.specs.Codes.{rowsOf}
 use Rattle.codes.specs.Layouts.{symbolsOf, firstSymbol, heightOf, diskOf}
 use Rattle.gf2.specs.InnerElimination.{pivotFor, reducePatterns, remaining, unitsFrom}
@@ -50,12 +51,22 @@ by-listed-number Holds three five seven p h = by-tests (eqb p 3) (eqb p 5) (eqb 
     by-tests false false true is-three is-five is-seven some = subst Holds (sym (eqb-true p 7 is-seven)) seven
     by-tests false false false is-three is-five is-seven some = absurd (false≢true some)
 
--- A family of one number, which is 3, 5 or 7: where none is found for these, any two disks have a plan for every listed number
-pub recovers-each-pair : (family : ℕ → Family) → ((p : ℕ) → listed (family p) ≡ threeFiveOrSeven p) → noPatternForPairs (familyCode (family 3)) ≡ true
-    → noPatternForPairs (familyCode (family 5)) ≡ true → noPatternForPairs (familyCode (family 7)) ≡ true → RecoversEachPair family
-recovers-each-pair family listed-so three five seven p is-listed =
+-- Whether no pattern is found for any two disks of a family of one number, which is 3, 5 or 7
+abbrev pub noPatternFor : (ℕ → Family) → Bool
+noPatternFor family = noPatternForPairs (familyCode (family 3)) && noPatternForPairs (familyCode (family 5)) && noPatternForPairs (familyCode (family 7))
+
+-- Then any two disks have a plan for every listed number
+pub recovers-each-pair : (family : ℕ → Family) → ((p : ℕ) → listed (family p) ≡ threeFiveOrSeven p) → noPatternFor family ≡ true → RecoversEachPair family
+recovers-each-pair family listed-so none p is-listed =
+    let three = noPatternForPairs (familyCode (family 3)) in
+    let five = noPatternForPairs (familyCode (family 5)) in
+    let seven = noPatternForPairs (familyCode (family 7)) in
+    let first-two = and-left (three && five) seven none in
     by-listed-number (λ p. listed (family p) ≡ true → EachPairHasAPlan (familyCode (family p)))
-    (pairs-of (family 3) three) (pairs-of (family 5) five) (pairs-of (family 7) seven) p (sym (listed-so p) ∙ is-listed) is-listed
+    (pairs-of (family 3) (and-left three five first-two))
+    (pairs-of (family 5) (and-right three five first-two))
+    (pairs-of (family 7) (and-right (three && five) seven none))
+    p (sym (listed-so p) ∙ is-listed) is-listed
 
 -- Then each disk has one
 pub recovers-each-disk : (family : ℕ → Family) → RecoversEachPair family → RecoversEachDisk family

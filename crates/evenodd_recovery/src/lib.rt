@@ -1,1 +1,0 @@
-// What EVENODD is for: any two disks of an array have a plan. Computed over the definitions; there is nothing to run.
