@@ -7,9 +7,10 @@ archive=target/staticlib/libcapi.a
 sources=$({ rt version && find crates.txt crates -type f -exec sha256sum {} + | LC_ALL=C sort; } | sha256sum)
 built() { echo "$sources $(sha256sum <"$archive")"; }
 if [ -f "$archive" ] && [ -f "$archive.sum" ] && [ "$(built)" = "$(cat "$archive.sum")" ]; then exit; fi
-# In the order of crates.txt, which has crates side by side that take about as long.
+# In the order of crates.txt, which has crates side by side that take about as long. rt starts some, waits for all of these and starts the next:
+# with four at once fewer processors wait.
 # shellcheck disable=SC2046
-rt check $(tac crates.txt | awk -F: '
+RT_JOBS=${RT_JOBS:-4} rt check $(tac crates.txt | awk -F: '
     $1 == "capi" || $1 in needed { n = split($2, names, " "); for (i = 1; i <= n; i++) needed[names[i]]; if ($1 != "capi") print $1 }' | tac)
 rt staticlib capi
 built >"$archive.sum"
