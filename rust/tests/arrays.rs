@@ -464,12 +464,15 @@ fn what_stands_in_a_disks_place_is_reported_and_left() {
         case.joins("another length");
     }
     case.lose(&[2]);
-    symlink("nowhere", &path).expect("a link");
-    fault("it is a link to nothing", "a link");
-    case.lose(&[2]);
-    symlink("disk-1", &path).expect("a link");
-    fault("it is the same file as disk-1", "a link to another disk");
-    case.lose(&[2]);
+    for (to, said) in [("nowhere", "it is a link to nothing"), ("disk-1", "it is the same file as disk-1")] {
+        symlink(to, &path).expect("a link");
+        fault("it is a link; --links takes links, for arrays whose disks lie on several media", "a link");
+        let ran = case.folder.fails("status array --links", 1);
+        assert!(ran.out.contains(&format!("disk 2   data  disk-2  {said}\n")), "{ran:?}");
+        let ran = case.folder.misused("restore array --links");
+        assert!(ran.contains(&format!("can't write array/disk-2: {said}; move it away")), "{ran}");
+        case.lose(&[2]);
+    }
     fs::hard_link(case.folder.0.join("array/disk-0"), &path).expect("a link");
     fault("it is the same file as disk-0", "another disk under its name");
     case.lose(&[2]);
@@ -794,8 +797,8 @@ fn a_split_that_fails_leaves_nothing() {
 fn a_restored_disk_has_the_rights_of_those_that_were_read() {
     let case = Case::liberation(3200);
     for mode in [0o600, 0o640, 0o666] {
-        for disk in 0..7 {
-            fs::set_permissions(case.folder.0.join(Case::name(disk)), Permissions::from_mode(mode)).expect("set");
+        for name in (0..7).map(Case::name).chain(["array/array".to_string()]) {
+            fs::set_permissions(case.folder.0.join(name), Permissions::from_mode(mode)).expect("set");
         }
         case.lose(&[2, 4]);
         case.writes("restore array", &[2, 4]);

@@ -1,7 +1,7 @@
 //! The command line: named options, and the words that stand in order.
 use crate::disks::Disks;
 use crate::failure::Failure;
-use crate::files::is_standard;
+use crate::files::{is_standard, Links};
 use crate::lists::decimal;
 use crate::wanted::Request;
 use std::collections::VecDeque;
@@ -10,7 +10,7 @@ use std::os::unix::ffi::OsStrExt;
 use std::path::{Path, PathBuf};
 
 /// The options that take no value.
-const FLAGS: &[&str] = &["--dry-run", "--in-place"];
+const FLAGS: &[&str] = &["--dry-run", "--in-place", "--links"];
 
 /// What follows a command's name, sorted. A question removes what it answers, so that `finish` finds what nobody asked for.
 #[derive(Debug)]
@@ -174,6 +174,14 @@ impl Arguments {
     /// Whether a flag is given.
     pub fn flag(&mut self, name: &str) -> bool {
         self.option(name).is_some()
+    }
+
+    /// Whether an array's files may be links.
+    pub fn links(&mut self) -> Links {
+        match self.flag("--links") {
+            true => Links::Followed,
+            false => Links::Refused,
+        }
     }
 
     /// The symbols that `--want` asks for, if it is given.

@@ -1,6 +1,6 @@
 //! An array as a folder: a file a disk, with the disk's strips one after the other, and a text, `array`, that says what they are.
 use crate::failure::{printable, Failure, Refused};
-use crate::files::{is_standard, trouble, Held, Purpose};
+use crate::files::{is_standard, trouble, Held, Links, Purpose};
 use crate::lists::decimal;
 use crate::replacement::is_temporary;
 use crate::sheets::{counted, Code};
@@ -24,6 +24,8 @@ const LONGEST_NAME: usize = 255;
 #[derive(Debug)]
 pub struct Array {
     pub folder: PathBuf,
+    /// whether its files may be links
+    pub links: Links,
     pub code: Code,
     /// L
     pub symbol_length: u64,
@@ -39,18 +41,19 @@ impl Array {
     pub fn new(folder: &Path, code: Code, symbol_length: u64, length: u64) -> Array {
         let names = (0..code.disks).map(|disk| format!("disk-{disk}")).collect();
         let stripes = stripes_for(&code, symbol_length, length);
-        Array { folder: folder.to_path_buf(), code, symbol_length, stripes, length, names }
+        let (folder, links) = (folder.to_path_buf(), Links::Refused);
+        Array { folder, links, code, symbol_length, stripes, length, names }
     }
 
     /// Reads a folder's description, which stays open and locked.
-    pub fn open(folder: &Path) -> Result<(Array, Held), Failure> {
+    pub fn open(folder: &Path, links: Links) -> Result<(Array, Held), Failure> {
         let path = description_of(folder);
-        let held = Held::open(&path, Purpose::Read)?;
+        let held = Held::open_with(&path, Purpose::Read, links)?;
         let mut bytes = Vec::new();
         let read = (&held.file).take(LONGEST as u64 + 1).read_to_end(&mut bytes);
         read.map_err(|error| trouble("read", &path, error))?;
         let array = Reader::new(folder, &path, &bytes)?.array()?;
-        Ok((array, held))
+        Ok((Array { links, ..array }, held))
     }
 
     /// Where a disk's file is.
@@ -167,7 +170,8 @@ impl<'a> Reader<'a> {
             let line = self.read - (names.len() - 1 - at);
             return Err(self.fault_at(line, format!("'{}' is another disk's file already", names[at])));
         }
-        Ok(Array { folder: self.folder.to_path_buf(), code, symbol_length, stripes, length, names })
+        let (folder, links) = (self.folder.to_path_buf(), Links::Refused);
+        Ok(Array { folder, links, code, symbol_length, stripes, length, names })
     }
 
     fn next_line(&mut self) -> Result<&'a str, Failure> {

@@ -84,9 +84,9 @@ fn contents(array: &Array) -> String {
 }
 
 pub fn status(arguments: &mut Arguments) -> Result<String, Failure> {
-    let folder = arguments.file("ARRAY")?;
+    let (folder, links) = (arguments.file("ARRAY")?, arguments.links());
     arguments.finish()?;
-    let (array, _) = Array::open(&folder)?;
+    let (array, _) = Array::open(&folder, links)?;
     let inventory = Inventory::take(&array)?;
     let mut text = format!("{}: {}\n  {}\n", printable(&folder), array.code.title(), contents(&array));
     for disk in 0..array.code.disks {
@@ -127,9 +127,9 @@ fn disk_line(array: &Array, inventory: &Inventory, disk: usize) -> String {
 }
 
 pub fn join(arguments: &mut Arguments) -> Result<String, Failure> {
-    let (folder, output) = (arguments.file("ARRAY")?, arguments.output()?);
+    let (folder, output, links) = (arguments.file("ARRAY")?, arguments.output()?, arguments.links());
     arguments.finish()?;
-    let (array, description) = Array::open(&folder)?;
+    let (array, description) = Array::open(&folder, links)?;
     let inventory = Inventory::take(&array)?;
     array.keep_apart(&output)?;
     let lost = inventory.lost();

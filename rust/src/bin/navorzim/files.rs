@@ -31,7 +31,7 @@ pub fn go_on(verb: &str, path: &Path) -> Result<(), Failure> {
 pub fn read_sheet(path: &Path, longest: usize) -> Result<Vec<u8>, Failure> {
     let mut file = match is_standard(path) {
         true => standard_input()?,
-        false => open_regular(path, Purpose::Read)?,
+        false => open_regular(path, Purpose::Read, Links::Followed)?,
     };
     let mut sheet = vec![0; longest + 1];
     let length = fill(&mut file, path, &mut sheet)?;
@@ -82,6 +82,18 @@ impl Stamp {
     }
 }
 
+/// What is done about a link in a file's place.
+#[derive(Clone, Copy, Debug, PartialEq, Eq)]
+pub enum Links {
+    /// it is followed, as any program does
+    Followed,
+    /// it is refused: whoever made it may not be allowed to read what it leads to
+    Refused,
+}
+
+/// What is said of a link in the place of an array's file.
+pub const A_LINK: &str = "it is a link; --links takes links, for arrays whose disks lie on several media";
+
 /// What a file is opened for.
 #[derive(Clone, Copy, Debug, PartialEq, Eq)]
 pub enum Purpose {
@@ -111,7 +123,11 @@ pub struct Held {
 
 impl Held {
     pub fn open(path: &Path, purpose: Purpose) -> Result<Held, Failure> {
-        let file = open_regular(path, purpose)?;
+        Held::open_with(path, purpose, Links::Followed)
+    }
+
+    pub fn open_with(path: &Path, purpose: Purpose, links: Links) -> Result<Held, Failure> {
+        let file = open_regular(path, purpose, links)?;
         lock(&file, purpose).map_err(|why| trouble(purpose.verb(), path, why))?;
         let found = file.metadata().map_err(|error| trouble(purpose.verb(), path, error))?;
         if purpose != Purpose::Read && found.permissions().readonly() {
@@ -161,8 +177,8 @@ impl Held {
     }
 }
 
-/// Opens a file, links followed, if it is a regular one.
-fn open_regular(path: &Path, purpose: Purpose) -> Result<File, Failure> {
+/// Opens a file if it is a regular one.
+fn open_regular(path: &Path, purpose: Purpose, links: Links) -> Result<File, Failure> {
     let fails = |error: io::Error| trouble(purpose.verb(), path, error);
     let regular = |found: &Metadata| match kind(found) {
         None => Ok(()),
@@ -170,10 +186,14 @@ fn open_regular(path: &Path, purpose: Purpose) -> Result<File, Failure> {
     };
     // Before it is opened, since to open a device may move it, and after, since it may have been exchanged; nor is a pipe's
     // other end waited for.
-    regular(&fs::metadata(path).map_err(fails)?)?;
+    let (found, flags) = match links {
+        Links::Followed => (fs::metadata(path), system::WITHOUT_WAITING),
+        Links::Refused => (fs::symlink_metadata(path), system::WITHOUT_WAITING | system::NO_LINK),
+    };
+    regular(&found.map_err(fails)?)?;
     let mut options = OpenOptions::new();
     let options = options.read(purpose != Purpose::Replace).write(purpose != Purpose::Read);
-    let file = options.custom_flags(system::WITHOUT_WAITING).open(path).map_err(fails)?;
+    let file = options.custom_flags(flags).open(path).map_err(fails)?;
     regular(&file.metadata().map_err(fails)?)?;
     Ok(file)
 }
@@ -253,6 +273,8 @@ pub fn kind(found: &Metadata) -> Option<&'static str> {
     let kind = found.file_type();
     if kind.is_file() {
         None
+    } else if kind.is_symlink() {
+        Some(A_LINK.trim_start_matches("it is "))
     } else if kind.is_dir() {
         Some("a folder")
     } else if kind.is_fifo() {

@@ -68,7 +68,7 @@ impl<'a> Survivors<'a> {
         let of_one_disk = symbols.chunk_by(|one, next| code.disk_of(*one) == code.disk_of(*next));
         let disks = of_one_disk.map(|symbols| {
             let disk = code.disk_of(symbols[0]);
-            let held = Held::open(&array.disk(disk), Purpose::Read)?;
+            let held = Held::open_with(&array.disk(disk), Purpose::Read, array.links)?;
             if held.length() != array.disk_length() {
                 return Err(trouble("use", &held.path, "it has just changed its length"));
             }

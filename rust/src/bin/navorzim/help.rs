@@ -36,7 +36,8 @@ and an array is always a folder.
 A file that is written takes the old one's place when it is complete; until then, and
 after any refusal, the old one is as it was. Files are locked (flock) while they are worked
 on; a file that somebody else writes or replaces meanwhile is left to them. Owner, group,
-permissions, access list and attributes stay; what can't be kept is narrowed. A signal
+permissions, access list and attributes stay, but setuid, setgid and sticky don't; what can't
+be kept is narrowed. A signal
 leaves no temporary file; the .navorzim-*.part of a killed run is removed by the next one
 that writes to the folder.
 
@@ -94,11 +95,14 @@ example: navorzim split code.sheet --symbol 64 register.txt -o array/
 ";
 
 pub const STATUS: &str = "\
-usage: navorzim status ARRAY
+usage: navorzim status ARRAY [--links]
 
 Says of each disk of an array whether its file is there and has the right length, what else is
 in the folder, and whether the disks that aren't there can be rebuilt, and what that reads.
 Nothing is written, and no disk's file is read.
+
+  --links      takes links in the disks' places, for arrays whose disks lie on several media;
+               without it a link is no disk
 
 Exit status: 0 if all disks are there, or those that aren't can be restored; 1 if they can't be
 rebuilt, or something else stands in a disk's place.
@@ -107,17 +111,20 @@ example: navorzim status array/
 ";
 
 pub const RESTORE: &str = "\
-usage: navorzim restore ARRAY [DISKS] [--plan PLAN] [--dry-run]
+usage: navorzim restore ARRAY [DISKS] [--plan PLAN] [--dry-run] [--links]
 
 Rebuilds the missing disks of an array, or of those only DISKS: one like 3, or several like 0,3.
 Plans anew from the code in `array`, has the plan checked, for every block of stripes again,
 and opens only the disks and reads only the symbols that it needs. Surviving disks are never
 written. What stands in a disk's place is never replaced: move it away first. A disk's file has
-its name only when it is complete; it has the rights of a disk that was read.
+its name only when it is complete. Its rights are no wider than those of every file that was
+read; it goes to another owner or group only if they and the folder all have that, else it stays
+with whoever runs this, mode 600.
 
   --plan PLAN  goes by this plan, which is checked like any other. It must be for all disks that
                can't be read, and bring the whole disks back
   --dry-run    says what would be read and written, and does nothing
+  --links      takes links in the disks' places
 
 Refused: the code sheet (1 to 6), 7 (no such disk), the plan (7 and 11 to 25). If no plan can
 bring the disks back, says so, prints the pattern that shows it, and ends with status 1.
@@ -127,10 +134,11 @@ example: navorzim restore array/ --dry-run
 ";
 
 pub const JOIN: &str = "\
-usage: navorzim join ARRAY -o DATA
+usage: navorzim join ARRAY -o DATA [--links]
 
 Makes the file of an array again, exactly as long as it was. Where disks are missing whose data
-can be rebuilt from the others, that is done on the way; the array stays as it is.
+can be rebuilt from the others, that is done on the way; the array stays as it is. --links takes
+links in the disks' places.
 
 If no plan can bring the data back, says so, prints the pattern that shows it, writes no file
 and ends with status 1.

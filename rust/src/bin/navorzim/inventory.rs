@@ -2,7 +2,7 @@
 use crate::array::Array;
 use crate::disks::Disks;
 use crate::failure::{printable, Failure};
-use crate::files::{kind, trouble};
+use crate::files::{kind, trouble, Links};
 use crate::replacement::is_temporary;
 use std::collections::HashMap;
 use std::ffi::OsString;
@@ -39,7 +39,7 @@ impl Inventory {
         let mut files = HashMap::new();
         let disks = (0..array.code.disks).map(|disk| {
             let path = array.disk(disk);
-            match found(&path, array.disk_length()) {
+            match found(&path, array.disk_length(), array.links) {
                 // Links of both kinds are seen through.
                 (Found::There, identity) => match files.insert(identity, disk) {
                     Some(before) => Found::SameAs(before),
@@ -86,9 +86,13 @@ impl Inventory {
 }
 
 /// How a file was found, and which it is.
-fn found(path: &Path, length: u64) -> (Found, (u64, u64)) {
+fn found(path: &Path, length: u64, links: Links) -> (Found, (u64, u64)) {
     let unfit = |why: String| (Found::Unfit(why), (0, 0));
-    match fs::metadata(path) {
+    let found = match links {
+        Links::Followed => fs::metadata(path),
+        Links::Refused => fs::symlink_metadata(path),
+    };
+    match found {
         Ok(found) => match kind(&found) {
             Some(kind) => unfit(format!("it is {kind}")),
             None if found.len() != length => (Found::Length(found.len()), (0, 0)),

@@ -33,8 +33,10 @@ pub struct Replacement {
 pub enum Model {
     /// those of the old version, with its attributes
     Old(File),
-    /// those of a file that belongs with it
+    /// those of another new file
     Like(File),
+    /// those that all files have that it is made of
+    MadeOf(Vec<File>),
     /// those that any program gives a new file
     New,
 }
@@ -94,7 +96,7 @@ impl Replacement {
                 let _ = fs::remove_file(path);
                 Model::Like(model)
             }
-            Model::Old(_) | Model::Like(_) => model,
+            Model::Old(_) | Model::Like(_) | Model::MadeOf(_) => model,
         };
         let (temporary, file) = create(0o600)?;
         let (named, temporary) = (named.to_path_buf(), Some(temporary));
@@ -131,6 +133,7 @@ impl Replacement {
         match &self.model {
             Model::Old(old) => rights::take_over(file, old)?,
             Model::Like(model) => rights::resemble(file, model)?,
+            Model::MadeOf(sources) => rights::share(file, sources, &self.folder)?,
             Model::New => {}
         }
         file.sync_all()

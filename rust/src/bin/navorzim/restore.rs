@@ -26,8 +26,9 @@ pub fn run(arguments: &mut Arguments) -> Result<String, Failure> {
     let asked = arguments.disks_if_any("DISKS")?;
     let given = arguments.source_option("--plan")?;
     let dry_run = arguments.flag("--dry-run");
+    let links = arguments.links();
     arguments.finish()?;
-    let (array, description) = Array::open(&folder)?;
+    let (array, description) = Array::open(&folder, links)?;
     let inventory = Inventory::take(&array)?;
     let targets = targets(&array, &inventory, asked)?;
     if targets.count() == 0 {
@@ -105,10 +106,10 @@ fn files(array: &Array, disks: &Disks) -> String {
 fn write(array: &Array, description: &Held, lost: &Disks, targets: &Disks, plan: &Plan) -> Result<String, Failure> {
     let began = Instant::now();
     let recovery = Recovery::open(array, lost, Some(plan), &[])?;
-    let model = recovery.survivors().held().next().unwrap_or(description);
+    let read = || recovery.survivors().held().chain([description]);
     let begin = |disk: u64| {
-        let path = array.disk(disk as usize);
-        Ok((disk as usize, Replacement::begin_new(&path, Model::Like(model.again()?.file))?))
+        let sources = read().map(|held| Ok(held.again()?.file)).collect::<Result<Vec<_>, Failure>>()?;
+        Ok((disk as usize, Replacement::begin_new(&array.disk(disk as usize), Model::MadeOf(sources))?))
     };
     let mut disks = targets.iter().map(begin).collect::<Result<Vec<_>, Failure>>()?;
     let progress = Progress::new(Some(array.stripes));
@@ -118,7 +119,7 @@ fn write(array: &Array, description: &Held, lost: &Disks, targets: &Disks, plan:
         file.complete()?;
     }
     for (_, file) in disks {
-        file.finish(recovery.survivors().held().chain([description]))?;
+        file.finish(read())?;
     }
     drop(progress);
     let sources = plan.sources(&array.code, lost);

@@ -1,7 +1,7 @@
 //! Who may see a new version of a file: nobody who couldn't see the old one. What can't be kept is narrowed, never widened.
 use crate::system::{attribute, attribute_names, remove_attribute, set_attribute};
 use std::ffi::CStr;
-use std::fs::{File, Permissions};
+use std::fs::{File, Metadata, Permissions};
 use std::io;
 use std::os::unix::fs::{fchown, MetadataExt, PermissionsExt};
 
@@ -13,9 +13,40 @@ pub fn take_over(file: &File, old: &File) -> io::Result<()> {
     give(file, old, keep_attributes)
 }
 
-/// Gives a new file, which only its owner can see until now, the owner, group, access list and permissions of another.
+/// Gives a new file, which only its owner can see until now, the owner, group, access list and permissions that another new file got.
 pub fn resemble(file: &File, model: &File) -> io::Result<()> {
     give(file, model, |_, _| Ok(()))
+}
+
+/// Gives a file that was made of others rights no wider than those of every one of them. It goes to another owner or group only if
+/// all of them and the folder have that: whoever put a stranger's file among them gets nothing of it. Else it stays with whoever runs
+/// the tool, for nobody else to see.
+pub fn share(file: &File, sources: &[File], folder: &File) -> io::Result<()> {
+    let found = sources.iter().map(File::metadata).collect::<io::Result<Vec<_>>>()?;
+    let (now, around) = (file.metadata()?, folder.metadata()?);
+    let whose = |of: fn(&Metadata) -> u32| {
+        let first = of(found.first()?);
+        let shared = found.iter().all(|source| of(source) == first);
+        (shared && [of(&now), of(&around)].contains(&first)).then_some(first)
+    };
+    let (owner, group) = (whose(Metadata::uid), whose(Metadata::gid));
+    let given = owner.is_some() && group.is_some() && fchown(file, owner, group).is_ok();
+    let mode = match given && share_list(file, sources).is_ok() {
+        true => found.iter().fold(0o777, |mode, source| mode & source.mode()),
+        false => 0o600,
+    };
+    file.set_permissions(Permissions::from_mode(mode))
+}
+
+/// The access control list that all of the files have, or none where none has one.
+fn share_list(file: &File, sources: &[File]) -> io::Result<()> {
+    remove_attribute(file, LIST)?;
+    let lists = sources.iter().map(|source| attribute(source, LIST)).collect::<io::Result<Vec<_>>>()?;
+    match lists.first() {
+        Some(first) if lists.iter().any(|list| list != first) => Err(io::ErrorKind::PermissionDenied.into()),
+        Some(Some(list)) => set_attribute(file, LIST, list),
+        _ => Ok(()),
+    }
 }
 
 fn give(file: &File, model: &File, attributes: fn(&File, &File) -> io::Result<()>) -> io::Result<()> {
@@ -27,7 +58,7 @@ fn give(file: &File, model: &File, attributes: fn(&File, &File) -> io::Result<()
     }
     let now = file.metadata()?;
     let (owner_kept, group_kept) = (now.uid() == owner, now.gid() == group);
-    let mode = narrowed(before.mode() & 0o7777, owner_kept, group_kept);
+    let mode = narrowed(before.mode(), owner_kept, group_kept);
     attributes(file, model)?;
     let mode = match keep_list(file, model, owner_kept && group_kept) {
         Ok(()) => mode,
@@ -38,19 +69,16 @@ fn give(file: &File, model: &File, attributes: fn(&File, &File) -> io::Result<()
 }
 
 /// Permissions for another owner or group. Whoever counted as the old owner or a member of the old group counts among the others
-/// now, and gets no more than before.
+/// now, and gets no more than before. Nobody gains what a program's owner may do (setuid, setgid) by new bytes, as by any write.
 fn narrowed(mode: u32, owner_kept: bool, group_kept: bool) -> u32 {
     let (user, mut group, mut others) = (mode >> 6 & 7, mode >> 3 & 7, mode & 7);
-    let mut special = mode & 0o7000;
     if !owner_kept {
         (group, others) = (group & user, others & user);
-        special &= 0o1000;
     }
     if !group_kept {
         (group, others) = (0, others & group);
-        special &= 0o1000;
     }
-    special | user << 6 | group << 3 | others
+    user << 6 | group << 3 | others
 }
 
 /// The extended attributes but the list. The user's own must be kept; those of the system (labels) are set where we may. What gives

@@ -25,6 +25,12 @@ extern "C" {
 /// For opening: a pipe's other end isn't waited for (O_NONBLOCK). Regular files don't know the difference.
 pub const WITHOUT_WAITING: c_int = 0o4000;
 
+/// For opening: what is a link isn't opened (O_NOFOLLOW, whose number differs between processors).
+pub const NO_LINK: c_int = match cfg!(any(target_arch = "arm", target_arch = "aarch64", target_arch = "powerpc64")) {
+    true => 0o100000,
+    false => 0o400000,
+};
+
 /// No system takes more for one value or one list of names: Linux' own limit.
 const LARGEST: usize = 1 << 16;
 

@@ -1,0 +1,175 @@
+//! Nobody gains a right by the tool, and no stranger's disk joins an array: what an attacker or a careless keeper would try.
+mod folder;
+mod model;
+
+use folder::{sheet, Folder};
+use std::fs::{self, Permissions};
+use std::os::unix::fs::{chown, symlink, MetadataExt, PermissionsExt};
+
+const NOBODY: u32 = 65_534;
+
+/// An array of version 1, without labels, in the folder `array`: each data disk has one symbol of a stripe, and the last disk their sum.
+fn plain(folder: &Folder, disks: &[&[u8]]) {
+    let data = disks.len() as u8 - 1;
+    let rows: Vec<u64> = (0..data).map(|disk| 1 << disk).chain([(1 << data) - 1]).collect();
+    let code = sheet(data + 1, 1, data, &rows);
+    let hexadecimal = |bytes: &[u8]| bytes.iter().map(|byte| format!("{byte:02x}")).collect::<String>();
+    let stripes = disks[0].len();
+    let mut text = format!("navorzim array 1\nsymbol 1\nstripes {stripes}\nlength {}\n", stripes * data as usize);
+    text += &format!("code {}\n", hexadecimal(&code[..6]));
+    text.extend(code[6..].chunks(8).map(|row| format!("row {}\n", hexadecimal(row))));
+    text.extend((0..disks.len()).map(|disk| format!("disk {disk} disk-{disk}\n")));
+    fs::create_dir(folder.0.join("array")).expect("made");
+    folder.put("array/array", text.as_bytes());
+    disks.iter().enumerate().for_each(|(disk, bytes)| folder.put(&format!("array/disk-{disk}"), bytes));
+}
+
+fn set_rights(folder: &Folder, name: &str, (mode, owner, group): (u32, u32, u32)) {
+    let path = folder.0.join(name);
+    chown(&path, Some(owner), Some(group)).expect("given away");
+    fs::set_permissions(&path, Permissions::from_mode(mode)).expect("set");
+}
+
+/// Mode, owner and group.
+fn rights(folder: &Folder, name: &str) -> (u32, u32, u32) {
+    let found = fs::symlink_metadata(folder.0.join(name)).expect("there");
+    (found.mode() & 0o7777, found.uid(), found.gid())
+}
+
+fn is_root(folder: &Folder) -> bool {
+    let root = fs::metadata(&folder.0).expect("there").uid() == 0;
+    if !root {
+        println!("not tried: only root can give files to others");
+    }
+    root
+}
+
+/// Puts a file of root in the place that has a name.
+type Placing = fn(&Folder, &str);
+
+/// Somebody's array of three disks: disk 0 is lost, a file of root stands in the place of disk 1 or 2, and the other has bytes of their
+/// choice.
+fn trap(root_mode: u32, disk: usize, place: Placing) -> Folder {
+    let folder = Folder::new();
+    let (roots, theirs) = (format!("array/disk-{disk}"), format!("array/disk-{}", 3 - disk));
+    plain(&folder, &[b"....", b"mine", b"mine"]);
+    folder.remove(&roots);
+    folder.put("file-of-root", b"ROOT");
+    set_rights(&folder, "file-of-root", (root_mode, 0, 0));
+    for name in ["array", "array/array", &theirs] {
+        set_rights(&folder, name, (if name == "array" { 0o755 } else { 0o644 }, NOBODY, NOBODY));
+    }
+    folder.remove("array/disk-0");
+    place(&folder, &roots);
+    folder
+}
+
+fn link(folder: &Folder, name: &str) {
+    symlink("../file-of-root", folder.0.join(name)).expect("a link");
+}
+
+fn second_name(folder: &Folder, name: &str) {
+    fs::hard_link(folder.0.join("file-of-root"), folder.0.join(name)).expect("a link");
+}
+
+/// How a file of root comes to stand in a disk's place, and the line that takes it for the disk.
+const WAYS: [(Placing, &str); 2] = [(second_name, "restore array"), (link, "restore array --links")];
+
+#[test]
+fn a_link_in_a_disks_place_is_refused_by_name() {
+    let folder = Folder::new();
+    plain(&folder, &[b"....", b"ROOT", b"mine"]);
+    folder.remove("array/disk-0");
+    fs::rename(folder.0.join("array/disk-1"), folder.0.join("file-of-root")).expect("renamed");
+    link(&folder, "array/disk-1");
+    let said = "it is a link; --links takes links, for arrays whose disks lie on several media";
+    let ran = folder.fails("restore array", 2);
+    assert!(ran.err.contains(&format!("array/disk-1: {said}")), "{ran:?}");
+    // Two of three disks can't be read.
+    let ran = folder.fails("status array", 1);
+    assert!(ran.out.contains(&format!("disk-1  {said}\n")), "{ran:?}");
+    folder.fails("join array -o out", 1);
+    folder.fails("restore array 0", 1);
+    folder.done("restore array --links");
+    folder.done("join array --links -o out");
+    let bytes: Vec<u8> = b"ROOT".iter().zip(b"mine").map(|(one, two)| one ^ two).collect();
+    assert_eq!(folder.get("array/disk-0"), bytes);
+    // Nor is a link taken for the description.
+    fs::rename(folder.0.join("array/array"), folder.0.join("text")).expect("renamed");
+    symlink("../text", folder.0.join("array/array")).expect("a link");
+    let said_now = folder.misused("join array -o other");
+    assert!(said_now.contains(&format!("can't read array/array: {said}")), "{said_now}");
+    folder.done("join array -o other --links");
+}
+
+#[test]
+fn a_restored_disk_is_no_program_of_root() {
+    for (place, line) in WAYS {
+        if !is_root(&Folder::new()) {
+            return;
+        }
+        let folder = trap(0o4755, 1, place);
+        folder.done(line);
+        assert_eq!(rights(&folder, "array/disk-0"), (0o600, 0, 0));
+        // The same where all of it is root's: it is root's, and still no program that acts for its owner.
+        let folder = trap(0o7755, 1, place);
+        for name in ["array", "array/array", "array/disk-2"] {
+            set_rights(&folder, name, (0o6755, 0, 0));
+        }
+        folder.done(line);
+        assert_eq!(rights(&folder, "array/disk-0"), (0o755, 0, 0));
+    }
+}
+
+#[test]
+fn what_only_root_may_read_is_restored_for_root() {
+    for (place, line) in WAYS {
+        if !is_root(&Folder::new()) {
+            return;
+        }
+        // The first disk that is read is theirs.
+        let folder = trap(0o600, 2, place);
+        folder.done(line);
+        assert_eq!(rights(&folder, "array/disk-0"), (0o600, 0, 0));
+    }
+}
+
+#[test]
+fn a_restored_disk_goes_to_an_owner_and_group_that_all_have() {
+    let folder = Folder::new();
+    if !is_root(&folder) {
+        return;
+    }
+    plain(&folder, &[b"....", b"ours", b"ours"]);
+    let (one, two) = (NOBODY, 1234);
+    for (around, text, disk_1, disk_2, expected) in [
+        ((0o755, one, one), (0o644, one, one), (0o664, one, one), (0o646, one, one), (0o644, one, one)),
+        ((0o755, one, two), (0o660, one, two), (0o664, one, two), (0o660, one, two), (0o660, one, two)),
+        // The folder, the description or a disk is another's.
+        ((0o755, two, one), (0o644, one, one), (0o644, one, one), (0o644, one, one), (0o600, 0, 0)),
+        ((0o755, one, one), (0o644, two, one), (0o644, one, one), (0o644, one, one), (0o600, 0, 0)),
+        ((0o755, one, one), (0o644, one, one), (0o644, one, one), (0o644, one, two), (0o600, 0, 0)),
+        ((0o755, one, one), (0o644, one, one), (0o644, 0, 0), (0o644, one, one), (0o600, 0, 0)),
+        // What belongs to whoever runs the tool isn't given away, whosever the folder is.
+        ((0o755, one, one), (0o640, 0, 0), (0o644, 0, 0), (0o644, 0, 0), (0o640, 0, 0)),
+    ] {
+        folder.remove("array/disk-0");
+        for (name, rights) in
+            [("array", around), ("array/array", text), ("array/disk-1", disk_1), ("array/disk-2", disk_2)]
+        {
+            set_rights(&folder, name, rights);
+        }
+        folder.done("restore array");
+        assert_eq!(rights(&folder, "array/disk-0"), expected, "{around:?} {text:?} {disk_1:?} {disk_2:?}");
+    }
+}
+
+#[test]
+fn a_new_version_acts_for_nobody() {
+    let folder = Folder::square();
+    for mode in [0o4755, 0o2755, 0o1644, 0o7777] {
+        fs::set_permissions(folder.0.join("stripes"), Permissions::from_mode(mode)).expect("set");
+        folder.done("rebuild code 0 plan --symbol 1 stripes --in-place");
+        assert_eq!(rights(&folder, "stripes").0, mode & 0o777);
+    }
+}
