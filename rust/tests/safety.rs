@@ -5,6 +5,8 @@ mod model;
 use folder::{sheet, Folder};
 use std::fs::{self, Permissions};
 use std::os::unix::fs::{chown, symlink, MetadataExt, PermissionsExt};
+use std::sync::atomic::{AtomicBool, Ordering};
+use std::thread;
 
 const NOBODY: u32 = 65_534;
 
@@ -172,4 +174,67 @@ fn a_new_version_acts_for_nobody() {
         folder.done("rebuild code 0 plan --symbol 1 stripes --in-place");
         assert_eq!(rights(&folder, "stripes").0, mode & 0o777);
     }
+}
+
+#[test]
+fn a_folder_that_is_exchanged_meanwhile_is_still_the_one_that_was_opened() {
+    let folder = Folder::new();
+    plain(&folder, &[b"sum!", b"....", b"sum!"]);
+    folder.put("array/disk-1", &[0; 4]);
+    fs::create_dir(folder.0.join("victim")).expect("made");
+    folder.remove("array/disk-0");
+    let ran = folder.run_with("restore array", "AT_FLUSH", "mv array moved && ln -s victim array");
+    assert_eq!(ran.status, 0, "{ran:?}");
+    assert_eq!(folder.get("moved/disk-0"), b"sum!");
+    assert_eq!(fs::read_dir(folder.0.join("victim")).expect("there").count(), 0);
+    assert_eq!(folder.temporaries(), 0);
+    // The same with a file that is written in place.
+    let folder = Folder::square();
+    for name in ["here", "victim"] {
+        fs::create_dir(folder.0.join(name)).expect("made");
+    }
+    fs::rename(folder.0.join("stripes"), folder.0.join("here/stripes")).expect("renamed");
+    let line = "rebuild code 0 plan --symbol 1 here/stripes --in-place";
+    let ran = folder.run_with(line, "AT_FLUSH", "mv here moved && ln -s victim here");
+    // By its name it isn't there any more, so that it is left.
+    assert!(ran.status == 2 && ran.err.contains("somebody else wrote or replaced it meanwhile"), "{ran:?}");
+    assert_eq!(fs::read_dir(folder.0.join("victim")).expect("there").count(), 0);
+    assert_eq!(folder.temporaries(), 0);
+}
+
+/// Somebody exchanges the folder for a link to another one, over and over, while root restores a disk.
+#[test]
+fn nothing_is_written_to_a_folder_that_a_link_leads_to_meanwhile() {
+    let folder = Folder::new();
+    plain(&folder, &[b"sum!", b"....", b"sum!"]);
+    folder.put("array/disk-1", &[0; 4]);
+    folder.remove("array/disk-0");
+    fs::create_dir(folder.0.join("victim")).expect("made");
+    symlink("victim", folder.0.join("link")).expect("a link");
+    let (stop, path) = (AtomicBool::new(false), |name: &str| folder.0.join(name));
+    let restored = thread::scope(|scope| {
+        scope.spawn(|| {
+            while !stop.load(Ordering::Relaxed) {
+                for (from, to) in [("array", "away"), ("link", "array"), ("array", "link"), ("away", "array")] {
+                    fs::rename(path(from), path(to)).expect("renamed");
+                }
+            }
+        });
+        let run = |_| {
+            let ran = folder.run("restore array");
+            assert_eq!(fs::read_dir(path("victim")).expect("there").count(), 0, "{ran:?}");
+            // The array is under one of its names.
+            while ran.status == 0 && fs::remove_file(path("away/disk-0")).is_err() {
+                if fs::symlink_metadata(path("array")).is_ok_and(|found| found.is_dir()) {
+                    let _ = fs::remove_file(path("array/disk-0"));
+                    break;
+                }
+            }
+            usize::from(ran.status == 0)
+        };
+        let restored = (0..400).map(run).sum::<usize>();
+        stop.store(true, Ordering::Relaxed);
+        restored
+    });
+    println!("{restored} of 400 runs found the array");
 }

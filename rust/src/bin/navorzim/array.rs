@@ -2,6 +2,7 @@
 use crate::failure::{printable, Failure, Refused};
 use crate::files::{is_standard, trouble, Held, Links, Purpose};
 use crate::lists::decimal;
+use crate::place::{OpenFolder, Place};
 use crate::replacement::is_temporary;
 use crate::sheets::{counted, Code};
 use navorzim::Refusal;
@@ -9,7 +10,8 @@ use std::ffi::OsStr;
 use std::fs;
 use std::io::Read;
 use std::os::unix::fs::MetadataExt;
-use std::path::{Path, PathBuf};
+use std::path::Path;
+use std::sync::Arc;
 
 /// The name of the description.
 const NAME: &str = "array";
@@ -23,7 +25,7 @@ const LONGEST_NAME: usize = 255;
 /// An array's description.
 #[derive(Debug)]
 pub struct Array {
-    pub folder: PathBuf,
+    pub folder: Arc<OpenFolder>,
     /// whether its files may be links
     pub links: Links,
     pub code: Code,
@@ -38,27 +40,27 @@ pub struct Array {
 
 impl Array {
     /// The array of so many bytes of data under the names that `split` gives.
-    pub fn new(folder: &Path, code: Code, symbol_length: u64, length: u64) -> Array {
+    pub fn new(folder: Arc<OpenFolder>, code: Code, symbol_length: u64, length: u64) -> Array {
         let names = (0..code.disks).map(|disk| format!("disk-{disk}")).collect();
         let stripes = stripes_for(&code, symbol_length, length);
-        let (folder, links) = (folder.to_path_buf(), Links::Refused);
-        Array { folder, links, code, symbol_length, stripes, length, names }
+        Array { folder, links: Links::Refused, code, symbol_length, stripes, length, names }
     }
 
-    /// Reads a folder's description, which stays open and locked.
+    /// Opens a folder, for all that is done there, and reads its description, which stays open and locked.
     pub fn open(folder: &Path, links: Links) -> Result<(Array, Held), Failure> {
-        let path = description_of(folder);
-        let held = Held::open_with(&path, Purpose::Read, links)?;
+        let path = folder.join(NAME);
+        let folder = OpenFolder::open(folder).map_err(|error| trouble("read", &path, error))?;
+        let held = Held::open_at(folder.at(NAME), Purpose::Read, links)?;
         let mut bytes = Vec::new();
         let read = (&held.file).take(LONGEST as u64 + 1).read_to_end(&mut bytes);
         read.map_err(|error| trouble("read", &path, error))?;
-        let array = Reader::new(folder, &path, &bytes)?.array()?;
+        let array = Reader::new(&folder, &path, &bytes)?.array()?;
         Ok((Array { links, ..array }, held))
     }
 
     /// Where a disk's file is.
-    pub fn disk(&self, disk: usize) -> PathBuf {
-        self.folder.join(self.name(disk))
+    pub fn disk(&self, disk: usize) -> Place {
+        self.folder.at(self.name(disk))
     }
 
     pub fn name(&self, disk: usize) -> &str {
@@ -66,8 +68,8 @@ impl Array {
     }
 
     /// Where the description is.
-    pub fn description(&self) -> PathBuf {
-        description_of(&self.folder)
+    pub fn description(&self) -> Place {
+        self.folder.at(NAME)
     }
 
     /// Whether a name in the folder is a part of the array.
@@ -80,7 +82,7 @@ impl Array {
         let identity = |path: &Path| fs::metadata(path).ok().map(|found| (found.dev(), found.ino()));
         let folder = identity(path.parent().filter(|parent| *parent != Path::new("")).unwrap_or(Path::new(".")));
         let own = path.file_name().and_then(OsStr::to_str).is_some_and(|name| self.has(name));
-        match !is_standard(path) && own && folder == identity(&self.folder) {
+        match !is_standard(path) && own && folder == identity(&self.folder.path()) {
             true => Err(trouble("write", path, "it is a part of the array")),
             false => Ok(()),
         }
@@ -114,10 +116,6 @@ impl Array {
     }
 }
 
-fn description_of(folder: &Path) -> PathBuf {
-    folder.join(NAME)
-}
-
 /// How many stripes so many bytes of data fill.
 fn stripes_for(code: &Code, symbol_length: u64, length: u64) -> u64 {
     length.div_ceil((code.data as u64).saturating_mul(symbol_length).max(1))
@@ -125,7 +123,7 @@ fn stripes_for(code: &Code, symbol_length: u64, length: u64) -> u64 {
 
 /// Reads a description line by line. Every fault names its line.
 struct Reader<'a> {
-    folder: &'a Path,
+    folder: &'a Arc<OpenFolder>,
     path: &'a Path,
     lines: Vec<&'a str>,
     /// the lines that have been read
@@ -133,7 +131,7 @@ struct Reader<'a> {
 }
 
 impl<'a> Reader<'a> {
-    fn new(folder: &'a Path, path: &'a Path, bytes: &'a [u8]) -> Result<Reader<'a>, Failure> {
+    fn new(folder: &'a Arc<OpenFolder>, path: &'a Path, bytes: &'a [u8]) -> Result<Reader<'a>, Failure> {
         let fault = |line: usize, why: &str| trouble("use", path, format!("line {line}: {why}"));
         let lines_in = |bytes: &[u8]| bytes.iter().filter(|&&byte| byte == b'\n').count();
         if bytes.len() > LONGEST {
@@ -170,7 +168,7 @@ impl<'a> Reader<'a> {
             let line = self.read - (names.len() - 1 - at);
             return Err(self.fault_at(line, format!("'{}' is another disk's file already", names[at])));
         }
-        let (folder, links) = (self.folder.to_path_buf(), Links::Refused);
+        let (folder, links) = (Arc::clone(self.folder), Links::Refused);
         Ok(Array { folder, links, code, symbol_length, stripes, length, names })
     }
 

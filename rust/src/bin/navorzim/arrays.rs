@@ -4,7 +4,7 @@ use crate::array::Array;
 use crate::commands::all_but;
 use crate::disks::Disks;
 use crate::failure::{printable, Failure};
-use crate::files::Purpose;
+use crate::files::{Held, Purpose};
 use crate::folders::NewFolder;
 use crate::gather::Blocks;
 use crate::inventory::{Found, Inventory};
@@ -30,7 +30,7 @@ pub fn split(arguments: &mut Arguments) -> Result<String, Failure> {
     let explain = |refusal| code.explain(refusal, &Disks::NONE, None, symbol_length);
     all_but(navorzim::encode(&code.sheet, symbol_length, &[], &mut []), Refusal::DataLength).map_err(explain)?;
     let stream = Stream::open(&data, Pieces::data(&code, symbol_length), End::Anywhere, Purpose::Read)?;
-    let array = write(stream, Array::new(&folder, code, symbol_length, 0))?;
+    let array = write(stream, &folder, code, symbol_length)?;
     Ok(format!(
         "wrote {}: {} of {}, and `array`, which describes them\n  {}\n",
         printable(&folder),
@@ -41,11 +41,12 @@ pub fn split(arguments: &mut Arguments) -> Result<String, Failure> {
 }
 
 /// Writes an array's disks, and when they are complete its description, with the length that the data turn out to have.
-fn write(mut stream: Stream, array: Array) -> Result<Array, Failure> {
-    let mut folder = NewFolder::make(&array.folder)?;
-    let begin = |disk: usize| Replacement::begin_new(&array.disk(disk), Model::New);
+fn write(mut stream: Stream, path: &Path, code: Code, symbol_length: u64) -> Result<Array, Failure> {
+    let mut folder = NewFolder::make(path)?;
+    let array = Array::new(folder.open(), code, symbol_length, 0);
+    let begin = |disk: usize| Replacement::begin_new(array.disk(disk), Model::New);
     let mut disks = (0..array.code.disks).map(begin).collect::<Result<Vec<_>, Failure>>()?;
-    let (code, symbol_length) = (&array.code, array.symbol_length);
+    let code = &array.code;
     let mut piece = vec![0; Pieces::data(code, symbol_length).length()];
     let mut stripe = vec![0; Pieces::stripes(code, symbol_length).length()];
     let progress = Progress::new(stream.count());
@@ -62,8 +63,8 @@ fn write(mut stream: Stream, array: Array) -> Result<Array, Failure> {
         file.complete()?;
     }
     let length = stream.input().taken();
-    let array = Array::new(&array.folder, array.code, symbol_length, length);
-    let mut description = Replacement::begin_new(&array.description(), Model::New)?;
+    let array = Array::new(folder.open(), array.code, symbol_length, length);
+    let mut description = Replacement::begin_new(array.description(), Model::New)?;
     description.write(array.text().as_bytes())?;
     for (disk, file) in disks.into_iter().enumerate() {
         folder.place(file, array.disk(disk), stream.input().held())?;
@@ -109,7 +110,7 @@ pub fn status(arguments: &mut Arguments) -> Result<String, Failure> {
     match (0..array.code.disks).find_map(|disk| Some((disk, inventory.fault(&array, disk)?))) {
         None => Ok(text),
         Some((disk, fault)) => {
-            let what = format!("{}: {fault}; move it away to have it restored", printable(&array.disk(disk)));
+            let what = format!("{}: {fault}; move it away to have it restored", printable(array.disk(disk).named()));
             Err(Failure::InTheWay { text, what })
         }
     }
@@ -144,7 +145,7 @@ pub fn join(arguments: &mut Arguments) -> Result<String, Failure> {
         }
     };
     let recovery = Recovery::open(&array, &lost, plan.as_ref(), &there)?;
-    let kept: Vec<&Path> = recovery.survivors().held().map(|held| &*held.path).chain([&*description.path]).collect();
+    let kept: Vec<&Path> = recovery.survivors().held().map(Held::named).chain([description.named()]).collect();
     let mut file = Output::begin(&output, &kept)?;
     let progress = Progress::new(Some(array.stripes));
     write_data(&array, &recovery, &homes, &mut file, &progress)?;

@@ -1,5 +1,6 @@
 //! Files that are read: sheets with a limit, stripes piece by piece, and how it is noticed that somebody else wrote one meanwhile.
 use crate::failure::{printable, Failure};
+use crate::place::Place;
 use crate::system;
 use std::fs::{self, File, Metadata, OpenOptions, TryLockError};
 use std::io::{self, BufReader, ErrorKind, Read};
@@ -31,7 +32,7 @@ pub fn go_on(verb: &str, path: &Path) -> Result<(), Failure> {
 pub fn read_sheet(path: &Path, longest: usize) -> Result<Vec<u8>, Failure> {
     let mut file = match is_standard(path) {
         true => standard_input()?,
-        false => open_regular(path, Purpose::Read, Links::Followed)?,
+        false => open_regular(&Place::named_only(path), Purpose::Read, Links::Followed)?,
     };
     let mut sheet = vec![0; longest + 1];
     let length = fill(&mut file, path, &mut sheet)?;
@@ -115,7 +116,7 @@ impl Purpose {
 /// A regular file that is open and locked, and how it was found.
 #[derive(Debug)]
 pub struct Held {
-    pub path: PathBuf,
+    pub place: Place,
     pub file: File,
     found: Stamp,
     purpose: Purpose,
@@ -123,24 +124,30 @@ pub struct Held {
 
 impl Held {
     pub fn open(path: &Path, purpose: Purpose) -> Result<Held, Failure> {
-        Held::open_with(path, purpose, Links::Followed)
+        Held::open_at(Place::named_only(path), purpose, Links::Followed)
     }
 
-    pub fn open_with(path: &Path, purpose: Purpose, links: Links) -> Result<Held, Failure> {
-        let file = open_regular(path, purpose, links)?;
-        lock(&file, purpose).map_err(|why| trouble(purpose.verb(), path, why))?;
-        let found = file.metadata().map_err(|error| trouble(purpose.verb(), path, error))?;
+    pub fn open_at(place: Place, purpose: Purpose, links: Links) -> Result<Held, Failure> {
+        let file = open_regular(&place, purpose, links)?;
+        let fails = |why: String| trouble(purpose.verb(), place.named(), why);
+        lock(&file, purpose).map_err(fails)?;
+        let found = file.metadata().map_err(|error| fails(error.to_string()))?;
         if purpose != Purpose::Read && found.permissions().readonly() {
-            return Err(trouble("write", path, "it is write-protected"));
+            return Err(fails("it is write-protected".to_string()));
         }
         let found = Stamp::of(&found);
-        Ok(Held { path: path.to_path_buf(), file, found, purpose })
+        Ok(Held { place, file, found, purpose })
+    }
+
+    /// The file's name for messages.
+    pub fn named(&self) -> &Path {
+        self.place.named()
     }
 
     /// Refuses if the file isn't the one that was found, under its name or as it is open: pieces of two states would be put
     /// together as one, or somebody's newer content would be lost.
     pub fn unchanged(&self) -> Result<(), Failure> {
-        let now = [self.file.metadata(), fs::metadata(&self.path)];
+        let now = [self.file.metadata(), fs::metadata(self.place.path())];
         if now.iter().all(|now| now.as_ref().is_ok_and(|now| Stamp::of(now) == self.found)) {
             Ok(())
         } else {
@@ -148,9 +155,9 @@ impl Held {
         }
     }
 
-    /// Refuses if the file isn't what a path without links means: a folder on the way may have been exchanged.
-    pub fn is_at(&self, path: &Path) -> Result<(), Failure> {
-        match fs::symlink_metadata(path) {
+    /// Refuses if the file isn't at a place itself, but by a link at most: a folder on the way may have been exchanged.
+    pub fn is_at(&self, place: &Place) -> Result<(), Failure> {
+        match fs::symlink_metadata(place.path()) {
             Ok(now) if Stamp::of(&now) == self.found => Ok(()),
             _ => Err(self.changed()),
         }
@@ -158,9 +165,9 @@ impl Held {
 
     fn changed(&self) -> Failure {
         match self.purpose {
-            Purpose::Read => trouble("use", &self.path, "it changed while it was read"),
+            Purpose::Read => trouble("use", self.named(), "it changed while it was read"),
             Purpose::Replace | Purpose::ReadAndReplace => {
-                trouble("write", &self.path, "somebody else wrote or replaced it meanwhile; it is left as it is")
+                trouble("write", self.named(), "somebody else wrote or replaced it meanwhile; it is left as it is")
             }
         }
     }
@@ -172,23 +179,24 @@ impl Held {
 
     /// The same open file, under the same lock.
     pub fn again(&self) -> Result<Held, Failure> {
-        let file = self.file.try_clone().map_err(|error| trouble(self.purpose.verb(), &self.path, error))?;
-        Ok(Held { path: self.path.clone(), file, found: self.found.clone(), purpose: self.purpose })
+        let file = self.file.try_clone().map_err(|error| trouble(self.purpose.verb(), self.named(), error))?;
+        Ok(Held { place: self.place.clone(), file, found: self.found.clone(), purpose: self.purpose })
     }
 }
 
 /// Opens a file if it is a regular one.
-fn open_regular(path: &Path, purpose: Purpose, links: Links) -> Result<File, Failure> {
-    let fails = |error: io::Error| trouble(purpose.verb(), path, error);
+fn open_regular(place: &Place, purpose: Purpose, links: Links) -> Result<File, Failure> {
+    let (named, path) = (place.named(), place.path());
+    let fails = |error: io::Error| trouble(purpose.verb(), named, error);
     let regular = |found: &Metadata| match kind(found) {
         None => Ok(()),
-        Some(kind) => Err(trouble(purpose.verb(), path, format!("it is {kind}"))),
+        Some(kind) => Err(trouble(purpose.verb(), named, format!("it is {kind}"))),
     };
     // Before it is opened, since to open a device may move it, and after, since it may have been exchanged; nor is a pipe's
     // other end waited for.
     let (found, flags) = match links {
-        Links::Followed => (fs::metadata(path), system::WITHOUT_WAITING),
-        Links::Refused => (fs::symlink_metadata(path), system::WITHOUT_WAITING | system::NO_LINK),
+        Links::Followed => (fs::metadata(&path), system::WITHOUT_WAITING),
+        Links::Refused => (fs::symlink_metadata(&path), system::WITHOUT_WAITING | system::NO_LINK),
     };
     regular(&found.map_err(fails)?)?;
     let mut options = OpenOptions::new();

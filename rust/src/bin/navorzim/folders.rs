@@ -1,10 +1,12 @@
 //! Folders that a command makes.
 use crate::failure::Failure;
 use crate::files::{trouble, Held};
+use crate::place::{OpenFolder, Place};
 use crate::replacement::{is_temporary, Replacement};
 use std::fs;
 use std::io::ErrorKind;
 use std::path::{Path, PathBuf};
+use std::sync::Arc;
 
 /// Makes a folder, or takes an empty one; answers whether it was made. What killed runs have left there doesn't count.
 pub fn make_or_take(path: &Path) -> Result<bool, Failure> {
@@ -25,21 +27,27 @@ pub fn make_or_take(path: &Path) -> Result<bool, Failure> {
 /// A folder for files that belong together. Until it is kept, those that have got their names are removed with it.
 pub struct NewFolder {
     path: PathBuf,
+    open: Arc<OpenFolder>,
     made: bool,
-    placed: Vec<PathBuf>,
+    placed: Vec<Place>,
     kept: bool,
 }
 
 impl NewFolder {
     pub fn make(path: &Path) -> Result<NewFolder, Failure> {
         let made = make_or_take(path)?;
-        Ok(NewFolder { path: path.to_path_buf(), made, placed: Vec::new(), kept: false })
+        let open = OpenFolder::open(path).map_err(|error| trouble("use", path, error))?;
+        Ok(NewFolder { path: path.to_path_buf(), open, made, placed: Vec::new(), kept: false })
+    }
+
+    pub fn open(&self) -> Arc<OpenFolder> {
+        Arc::clone(&self.open)
     }
 
     /// Gives a file its name, unless what it was made of has changed.
-    pub fn place(&mut self, file: Replacement, path: PathBuf, read: Option<&Held>) -> Result<(), Failure> {
+    pub fn place(&mut self, file: Replacement, place: Place, read: Option<&Held>) -> Result<(), Failure> {
         file.finish(read)?;
-        self.placed.push(path);
+        self.placed.push(place);
         Ok(())
     }
 
@@ -54,8 +62,8 @@ impl Drop for NewFolder {
         if self.kept {
             return;
         }
-        for path in &self.placed {
-            let _ = fs::remove_file(path);
+        for place in &self.placed {
+            let _ = fs::remove_file(place.path());
         }
         if self.made {
             let _ = fs::remove_dir(&self.path);

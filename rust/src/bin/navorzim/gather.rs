@@ -68,9 +68,9 @@ impl<'a> Survivors<'a> {
         let of_one_disk = symbols.chunk_by(|one, next| code.disk_of(*one) == code.disk_of(*next));
         let disks = of_one_disk.map(|symbols| {
             let disk = code.disk_of(symbols[0]);
-            let held = Held::open_with(&array.disk(disk), Purpose::Read, array.links)?;
+            let held = Held::open_at(array.disk(disk), Purpose::Read, array.links)?;
             if held.length() != array.disk_length() {
-                return Err(trouble("use", &held.path, "it has just changed its length"));
+                return Err(trouble("use", held.named(), "it has just changed its length"));
             }
             let runs = symbols.chunk_by(|one, next| one + 1 == *next);
             let runs = runs.map(|run| code.row_of(run[0])..code.row_of(run[0]) + run.len()).collect();
@@ -134,8 +134,8 @@ impl<'a> Survivors<'a> {
 impl Survivor {
     fn read(&self, bytes: &mut [u8], from: u64) -> Result<(), Failure> {
         self.held.file.read_exact_at(bytes, from).map_err(|error| match error.kind() {
-            ErrorKind::UnexpectedEof => trouble("use", &self.held.path, "it changed while it was read"),
-            _ => trouble("read", &self.held.path, error),
+            ErrorKind::UnexpectedEof => trouble("use", self.held.named(), "it changed while it was read"),
+            _ => trouble("read", self.held.named(), error),
         })
     }
 }

@@ -38,8 +38,7 @@ impl Inventory {
     pub fn take(array: &Array) -> Result<Inventory, Failure> {
         let mut files = HashMap::new();
         let disks = (0..array.code.disks).map(|disk| {
-            let path = array.disk(disk);
-            match found(&path, array.disk_length(), array.links) {
+            match found(&array.disk(disk).path(), array.disk_length(), array.links) {
                 // Links of both kinds are seen through.
                 (Found::There, identity) => match files.insert(identity, disk) {
                     Some(before) => Found::SameAs(before),
@@ -107,9 +106,9 @@ fn found(path: &Path, length: u64, links: Links) -> (Found, (u64, u64)) {
 }
 
 fn extra(array: &Array) -> Result<Vec<OsString>, Failure> {
-    let fails = |error| trouble("read", &array.folder, error);
+    let fails = |error| trouble("read", array.folder.named(), error);
     let mut extra = Vec::new();
-    for entry in fs::read_dir(&array.folder).map_err(fails)? {
+    for entry in fs::read_dir(array.folder.path()).map_err(fails)? {
         let name = entry.map_err(fails)?.file_name();
         if !name.to_str().is_some_and(|name| array.has(name)) {
             extra.push(name);

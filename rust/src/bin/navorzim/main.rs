@@ -18,6 +18,7 @@ mod inventory;
 mod lists;
 mod output;
 mod picture;
+mod place;
 mod planning;
 mod progress;
 mod recovery;

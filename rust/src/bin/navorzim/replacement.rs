@@ -1,6 +1,7 @@
 //! Files that are written: the new version takes the old one's place whole or not at all.
 use crate::failure::{printable, Failure};
 use crate::files::{go_on, is_standard, trouble, Held, Purpose, BUFFER};
+use crate::place::{OpenFolder, Place};
 use crate::{rights, system};
 use std::ffi::OsStr;
 use std::fs::{self, File, Metadata, OpenOptions, TryLockError};
@@ -8,16 +9,15 @@ use std::io::{self, BufWriter, ErrorKind, Write};
 use std::os::fd::AsFd;
 use std::os::unix::fs::{FileExt, MetadataExt, OpenOptionsExt};
 use std::path::{Path, PathBuf};
+use std::sync::Arc;
 use std::time::{SystemTime, UNIX_EPOCH};
 
 /// A new file beside the target that takes its place when it is complete. Until then the target is as it was, and if it is
 /// dropped before that, nothing is left behind.
 pub struct Replacement {
-    /// the target as the caller named it
-    named: PathBuf,
-    /// links followed, so that a link stays one
-    target: PathBuf,
-    folder: File,
+    /// links followed, so that a link stays one, in the folder that is open
+    target: Place,
+    folder: Arc<OpenFolder>,
     /// what stands there now
     old: Option<Held>,
     /// whose owner, group and permissions the new one gets
@@ -45,50 +45,52 @@ impl Replacement {
     /// Begins a new version of the target, which must be none of `kept`.
     pub fn begin(path: &Path, kept: &[&Path]) -> Result<Replacement, Failure> {
         match fs::metadata(path) {
-            Ok(_) => {
-                keep_apart(path, kept)?;
+            Ok(found) => {
+                keep_apart(path, &found, kept)?;
                 Replacement::of(Held::open(path, Purpose::Replace)?)
             }
             Err(error) if error.kind() == ErrorKind::NotFound => {
                 new_target(path)?;
-                Replacement::at(path, path.to_path_buf(), None, Model::New)
+                let target = Place::within_folder(path, path).map_err(|error| fails_at_folder(path, error))?;
+                Replacement::at(target, None, Model::New)
             }
             Err(error) => Err(trouble("write", path, error)),
         }
     }
 
     /// Begins a file that must not be there yet.
-    pub fn begin_new(path: &Path, model: Model) -> Result<Replacement, Failure> {
-        match fs::symlink_metadata(path) {
-            Ok(_) => Err(trouble("write", path, "it exists, and isn't replaced")),
-            Err(error) if error.kind() == ErrorKind::NotFound => {
-                new_target(path)?;
-                Replacement::at(path, path.to_path_buf(), None, model)
-            }
-            Err(error) => Err(trouble("write", path, error)),
+    pub fn begin_new(target: Place, model: Model) -> Result<Replacement, Failure> {
+        match fs::symlink_metadata(target.path()) {
+            Ok(_) => Err(trouble("write", target.named(), "it exists, and isn't replaced")),
+            Err(error) if error.kind() == ErrorKind::NotFound => Replacement::at(target, None, model),
+            Err(error) => Err(trouble("write", target.named(), error)),
         }
     }
 
     /// Begins a new version of a file that is read, which must be none of `kept`.
     pub fn in_place(held: &Held, kept: &[&Path]) -> Result<Replacement, Failure> {
-        keep_apart(&held.path, kept)?;
+        let found = held.file.metadata().map_err(|error| trouble("write", held.named(), error))?;
+        keep_apart(held.named(), &found, kept)?;
         Replacement::of(held.again()?)
     }
 
     fn of(old: Held) -> Result<Replacement, Failure> {
-        let named = old.path.clone();
-        let target = fs::canonicalize(&named).map_err(|error| trouble("write", &named, error))?;
+        let named = old.named();
+        let target = fs::canonicalize(named).map_err(|error| trouble("write", named, error))?;
+        let target = Place::within_folder(named, &target).map_err(|error| fails_at_folder(named, error))?;
+        // From here on this is the folder, whatever its path means.
+        old.is_at(&target)?;
         let model = Model::Old(old.again()?.file);
-        Replacement::at(&named, target, Some(old), model)
+        Replacement::at(target, Some(old), model)
     }
 
-    fn at(named: &Path, target: PathBuf, old: Option<Held>, model: Model) -> Result<Replacement, Failure> {
-        go_on("write", named)?;
-        // Before anything is written: a folder that can't be opened can't be brought to the disk.
-        let folder = File::open(folder_of(&target));
-        let folder = folder.map_err(|error| trouble("write", named, format!("its folder: {error}")))?;
-        remove_abandoned(folder_of(&target));
-        let create = |mode| create_beside(&target, mode).map_err(|error| trouble("write", named, error));
+    fn at(target: Place, old: Option<Held>, model: Model) -> Result<Replacement, Failure> {
+        go_on("write", target.named())?;
+        let Some(folder) = target.folder().cloned() else {
+            return Err(trouble("write", target.named(), "its folder isn't open"));
+        };
+        remove_abandoned(&folder.path());
+        let create = |mode| create_in(&folder.path(), mode).map_err(|error| trouble("write", target.named(), error));
         let model = match model {
             // An empty file shows what the folder and the user's mask make of a new one.
             Model::New => {
@@ -99,21 +101,20 @@ impl Replacement {
             Model::Old(_) | Model::Like(_) | Model::MadeOf(_) => model,
         };
         let (temporary, file) = create(0o600)?;
-        let (named, temporary) = (named.to_path_buf(), Some(temporary));
-        let writer = BufWriter::with_capacity(BUFFER, file);
-        Ok(Replacement { named, target, folder, old, model, temporary, writer, complete: false })
+        let (temporary, writer) = (Some(temporary), BufWriter::with_capacity(BUFFER, file));
+        Ok(Replacement { target, folder, old, model, temporary, writer, complete: false })
     }
 
     /// Adds bytes.
     pub fn write(&mut self, bytes: &[u8]) -> Result<(), Failure> {
-        go_on("write", &self.named)?;
+        go_on("write", self.named())?;
         let written = self.writer.write_all(bytes);
         written.map_err(|error| self.trouble(error))
     }
 
     /// Writes bytes at a place, which several threads may do at once. A file is written in this way or in the other, not in both.
     pub fn write_at(&self, bytes: &[u8], place: u64) -> Result<(), Failure> {
-        go_on("write", &self.named)?;
+        go_on("write", self.named())?;
         let written = self.writer.get_ref().write_all_at(bytes, place);
         written.map_err(|error| self.trouble(error))
     }
@@ -133,7 +134,7 @@ impl Replacement {
         match &self.model {
             Model::Old(old) => rights::take_over(file, old)?,
             Model::Like(model) => rights::resemble(file, model)?,
-            Model::MadeOf(sources) => rights::share(file, sources, &self.folder)?,
+            Model::MadeOf(sources) => rights::share(file, sources, self.folder.handle())?,
             Model::New => {}
         }
         file.sync_all()
@@ -150,21 +151,25 @@ impl Replacement {
             old.unchanged()?;
             old.is_at(&self.target)?;
         }
-        go_on("write", &self.named)?;
+        go_on("write", self.named())?;
         self.place().map_err(|error| self.trouble(error))?;
         // The new name is in the folder, so the folder too has to reach the disk.
-        self.folder.sync_all().map_err(|error| {
-            let why =
-                format!("{error}; {} is complete, but a crash may bring the old one back", printable(&self.named));
-            trouble("bring to the disk the folder of", &self.named, why)
+        self.folder.handle().sync_all().map_err(|error| {
+            let named = printable(self.named());
+            let why = format!("{error}; {named} is complete, but a crash may bring the old one back");
+            trouble("bring to the disk the folder of", self.named(), why)
         })
+    }
+
+    fn named(&self) -> &Path {
+        self.target.named()
     }
 
     fn place(&mut self) -> io::Result<()> {
         let Some(temporary) = &self.temporary else { return Ok(()) };
         match &self.old {
-            Some(_) => fs::rename(temporary, &self.target)?,
-            None => name_new(temporary, &self.target)?,
+            Some(_) => fs::rename(temporary, self.target.path())?,
+            None => name_new(temporary, &self.target.path())?,
         }
         self.temporary = None;
         Ok(())
@@ -172,8 +177,8 @@ impl Replacement {
 
     fn trouble(&self, error: io::Error) -> Failure {
         match error.kind() {
-            ErrorKind::AlreadyExists => trouble("write", &self.named, "somebody else made it meanwhile"),
-            _ => trouble("write", &self.named, error),
+            ErrorKind::AlreadyExists => trouble("write", self.named(), "somebody else made it meanwhile"),
+            _ => trouble("write", self.named(), error),
         }
     }
 }
@@ -210,9 +215,9 @@ fn new_target(path: &Path) -> Result<(), Failure> {
 }
 
 /// Refuses a target that is one of `kept` or takes this run's own answers, under whatever name: links of both kinds are seen through.
-fn keep_apart(path: &Path, kept: &[&Path]) -> Result<(), Failure> {
+fn keep_apart(path: &Path, found: &Metadata, kept: &[&Path]) -> Result<(), Failure> {
     let identity = |found: &Metadata| (found.dev(), found.ino());
-    let target = identity(&fs::metadata(path).map_err(|error| trouble("write", path, error))?);
+    let target = identity(found);
     let is_target = |found: io::Result<Metadata>| found.is_ok_and(|found| identity(&found) == target);
     if let Some(kept) = kept.iter().find(|kept| !is_standard(kept) && is_target(fs::metadata(kept))) {
         return Err(trouble("write", path, format!("it is also read, as {}", printable(kept))));
@@ -227,17 +232,14 @@ fn keep_apart(path: &Path, kept: &[&Path]) -> Result<(), Failure> {
     Ok(())
 }
 
-fn folder_of(target: &Path) -> &Path {
-    match target.parent() {
-        Some(folder) if !folder.as_os_str().is_empty() => folder,
-        _ => Path::new("."),
-    }
+/// A folder that can't be opened can't be brought to the disk either.
+fn fails_at_folder(named: &Path, error: io::Error) -> Failure {
+    trouble("write", named, format!("its folder: {error}"))
 }
 
 /// Creates a file under a name that nobody has, in the target's folder, since a rename can't leave the file system. It is locked as
 /// long as this run lives.
-fn create_beside(target: &Path, mode: u32) -> io::Result<(PathBuf, File)> {
-    let folder = folder_of(target);
+fn create_in(folder: &Path, mode: u32) -> io::Result<(PathBuf, File)> {
     for attempt in 0..100 {
         let temporary = folder.join(format!(".{}-{attempt}.part", unique_name()));
         let created = OpenOptions::new().write(true).create_new(true).mode(mode).open(&temporary);
@@ -277,7 +279,7 @@ fn remove_abandoned(folder: &Path) {
     }
 }
 
-/// Whether a name is one that `create_beside` gives, and no user's.
+/// Whether a name is one that `create_in` gives, and no user's.
 pub fn is_temporary(name: &OsStr) -> bool {
     let parts = name.to_str().and_then(|name| name.strip_prefix(".navorzim-")?.strip_suffix(".part"));
     let parts: Vec<&str> = parts.unwrap_or("").split('-').collect();

@@ -55,7 +55,7 @@ pub fn run(arguments: &mut Arguments) -> Result<String, Failure> {
 fn targets(array: &Array, inventory: &Inventory, asked: Option<Disks>) -> Result<Disks, Failure> {
     let in_the_way = |disk: usize| {
         let why = inventory.fault(array, disk).unwrap_or("it is there".to_string());
-        trouble("write", &array.disk(disk), format!("{why}; move it away to have it restored"))
+        trouble("write", array.disk(disk).named(), format!("{why}; move it away to have it restored"))
     };
     match asked {
         None => match (0..array.code.disks).find(|&disk| inventory.fault(array, disk).is_some()) {
@@ -98,7 +98,7 @@ fn bytes_written(array: &Array, targets: &Disks) -> u64 {
 }
 
 fn files(array: &Array, disks: &Disks) -> String {
-    let files: Vec<String> = disks.iter().map(|disk| printable(&array.disk(disk as usize))).collect();
+    let files: Vec<String> = disks.iter().map(|disk| printable(array.disk(disk as usize).named())).collect();
     files.join(", ")
 }
 
@@ -109,7 +109,7 @@ fn write(array: &Array, description: &Held, lost: &Disks, targets: &Disks, plan:
     let read = || recovery.survivors().held().chain([description]);
     let begin = |disk: u64| {
         let sources = read().map(|held| Ok(held.again()?.file)).collect::<Result<Vec<_>, Failure>>()?;
-        Ok((disk as usize, Replacement::begin_new(&array.disk(disk as usize), Model::MadeOf(sources))?))
+        Ok((disk as usize, Replacement::begin_new(array.disk(disk as usize), Model::MadeOf(sources))?))
     };
     let mut disks = targets.iter().map(begin).collect::<Result<Vec<_>, Failure>>()?;
     let progress = Progress::new(Some(array.stripes));
