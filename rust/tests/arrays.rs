@@ -26,9 +26,17 @@ impl Case {
         folder.put("data", data);
         let said = folder.done(&format!("split code --symbol {size} data -o array"));
         let code = model::read_code(sheet).expect("a good sheet");
-        let disks = strips(&code, size, data);
-        let wrote = format!("wrote array: {} disks of {} byte", code.disks, disks[0].len());
+        let strips = strips(&code, size, data);
+        let wrote = format!("wrote array: {} disks of {} byte", code.disks, strips[0].len());
         assert!(said.starts_with(&wrote), "{said}");
+        let text = folder.get("array/array");
+        let labelled = |(disk, mut bytes): (usize, Vec<u8>)| {
+            let line = format!("navorzim label 1 disk {disk:02} text {:05} check ", text.len());
+            let label = [&text, line.as_bytes()].concat();
+            bytes.extend(label.iter().chain(format!("{:08x}\n", model::crc32(&label)).as_bytes()));
+            bytes
+        };
+        let disks = strips.into_iter().enumerate().map(labelled).collect();
         let case = Case { folder, code, data: data.to_vec(), disks };
         case.is_whole("split");
         case
@@ -38,6 +46,20 @@ impl Case {
     fn liberation(length: usize) -> Case {
         let sheet = model::family("liberation", 5, 5).expect("listed");
         Case::new(&sheet, 64, &Random::new(length as u64).bytes(length))
+    }
+
+    /// The same as an array of version 1, whose disks have no labels.
+    fn without_labels(mut self) -> Case {
+        let text = String::from_utf8(self.folder.get("array/array")).expect("text");
+        let later = ["identity ", "made ", "family ", "check "];
+        let lines = text.lines().filter(|line| !later.iter().any(|word| line.starts_with(word)));
+        let lines: String = lines.map(|line| format!("{line}\n")).collect();
+        self.folder.put("array/array", lines.replace("navorzim array 2", "navorzim array 1").as_bytes());
+        for (disk, bytes) in self.disks.iter_mut().enumerate() {
+            bytes.truncate(bytes.len() - text.len() - 51);
+            self.folder.put(&Case::name(disk), bytes);
+        }
+        self
     }
 
     fn name(disk: usize) -> String {
@@ -237,7 +259,9 @@ fn the_description_can_be_read_by_a_person() {
     folder.put("data", &[7; 9]);
     folder.done("split code --symbol 2 data -o array");
     let expected = "\
-navorzim array 1
+navorzim array 2
+identity ..
+made ..
 symbol 2
 stripes 2
 length 9
@@ -255,12 +279,31 @@ disk 1 disk-1
 disk 2 disk-2
 disk 3 disk-3
 ";
-    assert_eq!(String::from_utf8(folder.get("array/array")).expect("text"), expected);
+    let text = String::from_utf8(folder.get("array/array")).expect("text");
+    let lines: Vec<&str> = text.lines().collect();
+    let identity = lines[1].strip_prefix("identity ").expect("the array's own");
+    assert!(identity.len() == 32 && identity.bytes().all(|digit| digit.is_ascii_hexdigit()), "{identity}");
+    let made = lines[2].strip_prefix("made ").expect("a moment");
+    assert!(made.len() == 23 && made.starts_with("20") && made.ends_with(" UTC"), "{made}");
+    let check = text.rfind("check ").expect("a check value");
+    assert_eq!(&text[check..], format!("check {:08x}\n", model::crc32(&text.as_bytes()[..check])));
+    if let Some(zlib) =
+        folder.python("import zlib\nt=open('array/array','rb').read()\nprint('%08x'%zlib.crc32(t[:-15]))")
+    {
+        assert_eq!(text[check..], format!("check {zlib}"), "zlib gives another value");
+    }
+    assert_eq!(text[..check].replace(identity, "..").replace(made, ".."), expected);
+    // The family's name and parameters, where the code is a family's; and no other array has the same identity.
+    folder.put("code", &model::family("liberation", 5, 4).expect("listed"));
+    folder.done("split code --symbol 2 data -o other");
+    let other = String::from_utf8(folder.get("other/array")).expect("text");
+    assert!(other.contains(" UTC\nfamily Liberation, w 5, k 4\nsymbol 2\n"), "{other}");
+    assert!(!other.contains(identity));
 }
 
 /// The description of 9 bytes in the square code, with something changed.
 fn described_with(changes: &[(&str, &str)]) -> Case {
-    let case = Case::new(&square_sheet(), 2, &[7; 9]);
+    let case = Case::new(&square_sheet(), 2, &[7; 9]).without_labels();
     let text = String::from_utf8(case.folder.get("array/array")).expect("text");
     let changed = changes.iter().fold(text, |text, (old, new)| {
         assert!(text.contains(old), "{old}: {text}");
@@ -285,7 +328,8 @@ fn faulty(faults: &[(&str, &str, usize, &str)]) {
 #[test]
 fn faults_of_numbers_name_their_line() {
     faulty(&[
-        ("array 1", "array 2", 1, "'navorzim array 1' must stand here"),
+        ("array 1", "array 3", 1, "'navorzim array 2', or the same with 1, must stand here"),
+        ("array 1", "array 2", 2, "'identity' and 32 hexadecimal digits (a to f small) must stand here"),
         ("navorzim", "Navorzim", 1, "must stand here"),
         ("navorzim array 1\n", "", 1, "must stand here"),
         ("navorzim array 1\n", "\n\n", 1, "must stand here"),
@@ -358,7 +402,7 @@ fn codes_that_the_library_refuses_name_their_line() {
 
 #[test]
 fn descriptions_of_any_bytes_are_no_danger() {
-    let case = Case::new(&square_sheet(), 2, &[7; 9]);
+    let case = Case::new(&square_sheet(), 2, &[7; 9]).without_labels();
     let text = case.folder.get("array/array");
     let mut random = Random::new(77);
     let judge = |bytes: &[u8], context: &str| {
@@ -455,11 +499,10 @@ fn what_stands_in_a_disks_place_is_reported_and_left() {
             assert_eq!(ran, expected, "{context}");
         }
     };
-    for (length, said) in
-        [(0, "it has 0 bytes, not 640"), (639, "it has 639 bytes, not 640"), (641, "it has 641 bytes, not 640")]
-    {
+    let right = case.disks[2].len();
+    for length in [0, 639, 641, right - 1, right + 1] {
         case.folder.put("array/disk-2", &vec![1; length]);
-        fault(said, "another length");
+        fault(&format!("it has {length} bytes, not {right}"), "another length");
         // The data can be read all the same.
         case.joins("another length");
     }

@@ -238,3 +238,124 @@ fn nothing_is_written_to_a_folder_that_a_link_leads_to_meanwhile() {
     });
     println!("{restored} of 400 runs found the array");
 }
+
+/// A folder with a register as it was in the morning and at noon, each as an array by Liberation, w 5, k 5.
+fn morning_and_noon() -> Folder {
+    let folder = Folder::new();
+    folder.put("code", &model::family("liberation", 5, 5).expect("listed"));
+    for (name, byte) in [("morning", b'm'), ("noon", b'n')] {
+        folder.put(&format!("{name}.txt"), &[byte; 3000]);
+        folder.done(&format!("split code --symbol 64 {name}.txt -o {name}"));
+    }
+    folder
+}
+
+/// A disk that isn't the array's stands in a disk's place: it is named for what it is, not read, and not replaced.
+fn is_a_stranger(folder: &Folder, disk: usize, said: &str) {
+    folder.remove("noon/disk-0");
+    let ran = folder.fails("status noon", 1);
+    assert!(ran.out.contains(&format!("  disk-{disk}  {said}\n")), "{ran:?}");
+    let ran = folder.fails("restore noon", 2);
+    let expected = format!("can't write noon/disk-{disk}: {said}; move it away to have it restored\n");
+    assert!(ran.err.ends_with(&expected), "{ran:?}");
+    let ran = folder.run("join noon -o joined");
+    assert!(ran.status == 0 && ran.out.contains(&format!("  disk-{disk} isn't read: {said}\n")), "{ran:?}");
+    assert_eq!(folder.get("joined"), folder.get("noon.txt"));
+    // Asked for by name, a disk is restored without the stranger.
+    let said_now = folder.done("restore noon 0");
+    assert!(!said_now.contains(&format!("disk {disk}")), "{said_now}");
+    folder.remove(&format!("noon/disk-{disk}"));
+    folder.done("restore noon");
+}
+
+#[test]
+fn no_strangers_disk_joins() {
+    let folder = morning_and_noon();
+    let copy = |from: &str, to: &str| folder.put(to, &folder.get(from));
+    let whole: Vec<Vec<u8>> = (0..7).map(|disk| folder.get(&format!("noon/disk-{disk}"))).collect();
+    copy("morning/disk-5", "noon/disk-5");
+    is_a_stranger(&folder, 5, "this is disk 5 of another array");
+    copy("morning/disk-1", "noon/disk-4");
+    is_a_stranger(&folder, 4, "this is disk 1 of another array");
+    copy("noon/disk-4", "noon/disk-3");
+    is_a_stranger(&folder, 3, "this is disk 4 of this array, under the name disk-3");
+    // Without a label, and with no more than a label.
+    let label = whole[2][640..].to_vec();
+    folder.put("noon/disk-2", &[&whole[2][..640], &vec![0; label.len()]].concat());
+    is_a_stranger(&folder, 2, "it has no label, or a damaged one: whose it is isn't known");
+    folder.put("noon/disk-2", &label);
+    is_a_stranger(&folder, 2, &format!("it has {} bytes, not {}", label.len(), whole[2].len()));
+    // An array of another shape has labels of another length.
+    folder.done("split code --symbol 65536 morning.txt -o other");
+    copy("other/disk-6", "noon/disk-6");
+    is_a_stranger(&folder, 6, "this is disk 6 of another array");
+    let now: Vec<Vec<u8>> = (0..7).map(|disk| folder.get(&format!("noon/disk-{disk}"))).collect();
+    assert!(now == whole, "the disks are as they were, with their labels");
+    // Two disks with exchanged names.
+    folder.put("noon/disk-1", &whole[2]);
+    folder.put("noon/disk-2", &whole[1]);
+    let ran = folder.fails("status noon", 1);
+    assert!(ran.out.contains("disk-1  this is disk 2 of this array, under the name disk-1\n"), "{ran:?}");
+    assert!(ran.out.contains("disk-2  this is disk 1 of this array, under the name disk-2\n"), "{ran:?}");
+    folder.done("join noon -o joined");
+    assert_eq!(folder.get("joined"), folder.get("noon.txt"));
+}
+
+#[test]
+fn arrays_without_labels_are_still_read() {
+    let folder = Folder::new();
+    plain(&folder, &[b"sum!", &[0; 4], b"sum!"]);
+    let said = "  version 1, without labels: a disk of another array can't be noticed\n";
+    assert!(folder.done("status array").contains(said));
+    assert!(folder.done("join array -o out").contains(said));
+    folder.remove("array/disk-0");
+    assert!(folder.done("restore array").contains(said));
+    assert_eq!(folder.get("array/disk-0"), b"sum!");
+    let folder = morning_and_noon();
+    assert!(!folder.done("status noon").contains("version 1"));
+}
+
+#[test]
+fn every_flipped_bit_of_a_description_is_refused_with_its_line() {
+    let folder = Folder::square();
+    folder.put("data", &[7; 9]);
+    folder.done("split code --symbol 2 data -o array");
+    let text = folder.get("array/array");
+    for place in 0..8 * text.len() {
+        let mut flipped = text.clone();
+        flipped[place / 8] ^= 1 << (place % 8);
+        folder.put("array/array", &flipped);
+        let ran = folder.run("status array");
+        let named = ran.err.contains("can't use array/array: line ") || ran.err.contains(": line ");
+        assert!((ran.status == 1 || ran.status == 2) && ran.out.is_empty() && named, "bit {place}: {ran:?}");
+    }
+    // Exchanged, doubled and left out lines are refused too.
+    let lines: Vec<&[u8]> = text.split_inclusive(|&byte| byte == b'\n').collect();
+    for at in 0..lines.len() {
+        let (before, rest) = lines.split_at(at);
+        let next = rest.get(1).copied().unwrap_or_default();
+        for middle in [vec![next, rest[0]], vec![rest[0], rest[0], next], vec![next]] {
+            let changed = [before, &middle, rest.get(2..).unwrap_or_default()].concat().concat();
+            folder.put("array/array", &changed);
+            let same = changed == text;
+            assert_eq!(folder.run("join array -o out").status == 0, same, "{}", String::from_utf8_lossy(&changed));
+        }
+    }
+}
+
+#[test]
+fn every_flipped_bit_of_a_label_is_refused() {
+    let folder = Folder::square();
+    folder.put("data", &[7; 9]);
+    folder.done("split code --symbol 2 data -o array");
+    let disk = folder.get("array/disk-1");
+    assert!(disk.len() > 8, "there is a label behind the strips");
+    for place in 8 * 8..8 * disk.len() {
+        let mut flipped = disk.clone();
+        flipped[place / 8] ^= 1 << (place % 8);
+        folder.put("array/disk-1", &flipped);
+        let ran = folder.run("status array");
+        let said = "disk-1  it has no label, or a damaged one: whose it is isn't known\n";
+        assert!(ran.status == 1 && ran.out.contains(said), "bit {place}: {ran:?}");
+    }
+}

@@ -1255,7 +1255,7 @@ fn the_demonstration_comes_out_right() {
     for piece in [
         "disk 0   data  disk-0  missing",
         "disk 0 can be rebuilt: reads 25 symbols of each of 2 stripes, 3200 bytes, from disks 1, 2, 3, 4 and 5",
-        "compared: all 640 bytes of array/disk-0 are as they were",
+        "compared: all 1705 bytes of array/disk-0 are as they were, its label too",
         "restored disks 0 and 3: array/disk-0, array/disk-3",
         "compared: all 3200 bytes of register.txt are in joined.txt",
         "wrote row2.sheet: 26 bytes, 5 steps, reads 5 symbols, brings back disk 0 row 2",
@@ -1408,7 +1408,7 @@ fn the_readme_is_true() {
         assert_eq!(folder.get(name), folder.get("examples/register.txt"), "{name}");
     }
     assert_eq!(folder.get("rebuilt.bin"), folder.get("stripes.bin"));
-    assert_eq!(folder.get("disk0.bin"), folder.get("array/disk-0"));
+    assert!(folder.get("array/disk-0").starts_with(&folder.get("disk0.bin")));
     // Each line of the demonstration that is quoted stands in it.
     let said = folder.done("demo");
     let quoted = readme.lines().skip_while(|line| *line != "## Two commands").take_while(|line| *line != "## The tool");

@@ -497,3 +497,14 @@ pub fn look_up(
     let from = if lost.contains(&symbol) { symbol - lost.start } else { symbol };
     Ok((lost.contains(&symbol), from * size, (from + 1) * size))
 }
+
+/// CRC-32 as zlib has it, by long division: the bytes' bits, each byte's lowest first, the first 32 of them turned round, and 32 zeros.
+pub fn crc32(bytes: &[u8]) -> u32 {
+    let bits = bytes.iter().chain(&[0; 4]).flat_map(|byte| (0..8).map(move |bit| byte >> bit & 1));
+    let turned = bits.enumerate().map(|(nth, bit)| u64::from(bit) ^ u64::from(nth < 32));
+    let rest = turned.fold(0u64, |rest, bit| match rest << 1 | bit {
+        rest if rest >> 32 == 1 => rest ^ 0x1_04c1_1db7,
+        rest => rest,
+    });
+    !(rest as u32).reverse_bits()
+}

@@ -1,23 +1,30 @@
-//! An array as a folder: a file a disk, with the disk's strips one after the other, and a text, `array`, that says what they are.
+//! An array as a folder: a file a disk, with the disk's strips one after the other and a label, and a text, `array`, that says what
+//! they are.
+use crate::birth::Birth;
+use crate::checksum::crc32;
 use crate::failure::{printable, Failure, Refused};
 use crate::files::{is_standard, trouble, Held, Links, Purpose};
+use crate::label::Label;
 use crate::lists::decimal;
 use crate::place::{OpenFolder, Place};
 use crate::replacement::is_temporary;
 use crate::sheets::{counted, Code};
 use navorzim::Refusal;
 use std::ffi::OsStr;
-use std::fs;
+use std::fs::{self, File};
 use std::io::Read;
-use std::os::unix::fs::MetadataExt;
+use std::os::unix::fs::{FileExt, MetadataExt};
 use std::path::Path;
 use std::sync::Arc;
 
 /// The name of the description.
 const NAME: &str = "array";
-/// What its first line says.
-const FIRST_LINE: &str = "navorzim array 1";
-/// No description is longer: 64 disks with the longest names, 64 rows, and six lines more.
+/// What its first line says: before there were labels, and since.
+const VERSION_1: &str = "navorzim array 1";
+const VERSION_2: &str = "navorzim array 2";
+/// What is said of an array of version 1.
+pub const NO_LABELS: &str = "version 1, without labels: a disk of another array can't be noticed";
+/// No description is longer: 64 disks with the longest names, 64 rows, and some lines more.
 const LONGEST: usize = 32 << 10;
 /// The longest name that a file can have.
 const LONGEST_NAME: usize = 255;
@@ -28,6 +35,10 @@ pub struct Array {
     pub folder: Arc<OpenFolder>,
     /// whether its files may be links
     pub links: Links,
+    /// none in version 1, whose disks have no labels
+    pub birth: Option<Birth>,
+    /// the family's name and parameters, for people: as it was written, since a later version may know more families
+    family: Option<String>,
     pub code: Code,
     /// L
     pub symbol_length: u64,
@@ -40,10 +51,11 @@ pub struct Array {
 
 impl Array {
     /// The array of so many bytes of data under the names that `split` gives.
-    pub fn new(folder: Arc<OpenFolder>, code: Code, symbol_length: u64, length: u64) -> Array {
+    pub fn new(folder: Arc<OpenFolder>, birth: Birth, code: Code, symbol_length: u64, length: u64) -> Array {
         let names = (0..code.disks).map(|disk| format!("disk-{disk}")).collect();
         let stripes = stripes_for(&code, symbol_length, length);
-        Array { folder, links: Links::Refused, code, symbol_length, stripes, length, names }
+        let (links, birth, family) = (Links::Refused, Some(birth), code.family_name());
+        Array { folder, links, birth, family, code, symbol_length, stripes, length, names }
     }
 
     /// Opens a folder, for all that is done there, and reads its description, which stays open and locked.
@@ -54,8 +66,13 @@ impl Array {
         let mut bytes = Vec::new();
         let read = (&held.file).take(LONGEST as u64 + 1).read_to_end(&mut bytes);
         read.map_err(|error| trouble("read", &path, error))?;
-        let array = Reader::new(&folder, &path, &bytes)?.array()?;
-        Ok((Array { links, ..array }, held))
+        Ok((Array::read(&folder, links, &path, &bytes)?, held))
+    }
+
+    /// Reads a description. A fault is that of the file at the path.
+    pub fn read(folder: &Arc<OpenFolder>, links: Links, path: &Path, bytes: &[u8]) -> Result<Array, Failure> {
+        let array = Reader::new(folder, path, bytes)?.array()?;
+        Ok(Array { links, ..array })
     }
 
     /// Where a disk's file is.
@@ -93,27 +110,59 @@ impl Array {
         self.code.rows as u64 * self.symbol_length
     }
 
-    /// Bytes of a disk's file. `open` has tested that there is such a number.
+    /// Bytes of a disk's strips. `open` has tested that there is such a number.
     pub fn disk_length(&self) -> u64 {
         self.stripes.saturating_mul(self.strip_length())
     }
 
-    /// The description as a text: a line each for the version, L, the stripes, the data's length, the head of the code sheet and each
-    /// of its rows, both in hexadecimal, and each disk's file.
+    /// The label of a disk's file; empty in version 1.
+    pub fn label(&self, disk: usize) -> Vec<u8> {
+        Label::of(self, disk).map_or(Vec::new(), |label| label.bytes())
+    }
+
+    /// Whether a file ends with the label of a disk.
+    pub fn is_labelled(&self, file: &File, disk: usize) -> bool {
+        let label = self.label(disk);
+        let mut found = vec![0; label.len()];
+        let from = file.metadata().map_or(0, |found| found.len().saturating_sub(label.len() as u64));
+        file.read_exact_at(&mut found, from).is_ok() && found == label
+    }
+
+    /// Bytes of a disk's file, with its label.
+    pub fn file_length(&self) -> u64 {
+        self.disk_length().saturating_add(self.label(0).len() as u64)
+    }
+
+    /// The description as a text: a line each for the version, the identity, when it was made, the family if it is one, L, the
+    /// stripes, the data's length, the head of the code sheet and each of its rows, both in hexadecimal, each disk's file, and the
+    /// check value of every byte before it. Version 1 has no identity, and what goes with it.
     pub fn text(&self) -> String {
-        let hexadecimal = |bytes: &[u8]| bytes.iter().map(|byte| format!("{byte:02x}")).collect::<String>();
         let (head, rows) = self.code.sheet.split_at(6);
-        let mut lines = vec![
-            FIRST_LINE.to_string(),
-            format!("symbol {}", self.symbol_length),
-            format!("stripes {}", self.stripes),
-            format!("length {}", self.length),
-            format!("code {}", hexadecimal(head)),
-        ];
+        let mut lines = match &self.birth {
+            None => vec![VERSION_1.to_string()],
+            Some(birth) => vec![
+                VERSION_2.to_string(),
+                format!("identity {}", hexadecimal(&birth.identity)),
+                format!("made {}", birth.made),
+            ],
+        };
+        lines.extend(self.family.iter().map(|family| format!("family {family}")));
+        lines.push(format!("symbol {}", self.symbol_length));
+        lines.push(format!("stripes {}", self.stripes));
+        lines.push(format!("length {}", self.length));
+        lines.push(format!("code {}", hexadecimal(head)));
         lines.extend(rows.chunks(8).map(|row| format!("row {}", hexadecimal(row))));
         lines.extend(self.names.iter().enumerate().map(|(disk, name)| format!("disk {disk} {name}")));
-        lines.iter().map(|line| format!("{line}\n")).collect()
+        let text: String = lines.iter().map(|line| format!("{line}\n")).collect();
+        match self.birth {
+            None => text,
+            Some(_) => format!("{text}check {:08x}\n", crc32(text.as_bytes())),
+        }
     }
+}
+
+fn hexadecimal(bytes: &[u8]) -> String {
+    bytes.iter().map(|byte| format!("{byte:02x}")).collect()
 }
 
 /// How many stripes so many bytes of data fill.
@@ -125,9 +174,12 @@ fn stripes_for(code: &Code, symbol_length: u64, length: u64) -> u64 {
 struct Reader<'a> {
     folder: &'a Arc<OpenFolder>,
     path: &'a Path,
+    bytes: &'a [u8],
     lines: Vec<&'a str>,
     /// the lines that have been read
     read: usize,
+    /// the lines before the one with L
+    before: usize,
 }
 
 impl<'a> Reader<'a> {
@@ -147,29 +199,75 @@ impl<'a> Reader<'a> {
         let Some(text) = text.strip_suffix('\n') else {
             return Err(fault(lines_in(bytes) + 1, "it has no end"));
         };
-        Ok(Reader { folder, path, lines: text.split('\n').collect(), read: 0 })
+        let lines = text.split('\n').collect();
+        Ok(Reader { folder, path, bytes, lines, read: 0, before: 1 })
     }
 
     fn array(mut self) -> Result<Array, Failure> {
-        let first = self.next_line()?;
-        if first != FIRST_LINE {
-            return Err(self.fault(format!("'{FIRST_LINE}' must stand here")));
-        }
+        let birth = match self.next_line()? {
+            VERSION_1 => None,
+            VERSION_2 => Some(self.birth()?),
+            _ => return Err(self.fault(format!("'{VERSION_2}', or the same with 1, must stand here"))),
+        };
+        let family = self.family(&birth)?;
+        self.before = self.read;
         let (symbol_length, stripes, length) =
             (self.number("symbol")?, self.number("stripes")?, self.number("length")?);
         let code = self.code()?;
         self.fits(&code, symbol_length, stripes, length)?;
         let names = (0..code.disks).map(|disk| self.name(disk)).collect::<Result<Vec<String>, Failure>>()?;
+        let last_name = self.read;
+        if birth.is_some() {
+            self.check()?;
+        }
         if self.read < self.lines.len() {
             let why = format!("it is one too many: the code has {}", counted(code.disks, "disk"));
             return Err(self.fault_at(self.read + 1, why));
         }
         if let Some(at) = (0..names.len()).find(|&at| names[..at].contains(&names[at])) {
-            let line = self.read - (names.len() - 1 - at);
+            let line = last_name - (names.len() - 1 - at);
             return Err(self.fault_at(line, format!("'{}' is another disk's file already", names[at])));
         }
         let (folder, links) = (Arc::clone(self.folder), Links::Refused);
-        Ok(Array { folder, links, code, symbol_length, stripes, length, names })
+        Ok(Array { folder, links, birth, family, code, symbol_length, stripes, length, names })
+    }
+
+    fn birth(&mut self) -> Result<Birth, Failure> {
+        let mut identity = [0; 16];
+        identity.copy_from_slice(&self.bytes("identity", 16)?);
+        Ok(Birth { identity, made: self.words("made", "when that was")? })
+    }
+
+    /// The line with the family, if it is there.
+    fn family(&mut self, birth: &Option<Birth>) -> Result<Option<String>, Failure> {
+        match self.lines.get(self.read) {
+            Some(line) if birth.is_some() && line.starts_with("family ") => {
+                self.words("family", "its name and parameters").map(Some)
+            }
+            _ => Ok(None),
+        }
+    }
+
+    /// What a line says to people.
+    fn words(&mut self, word: &str, what: &str) -> Result<String, Failure> {
+        let words = self.value(word, what)?;
+        match words.len() <= LONGEST_NAME && printable(Path::new(words)) == words {
+            true => Ok(words.to_string()),
+            false => Err(self.fault("it is too long, or has signs that can't be shown".to_string())),
+        }
+    }
+
+    /// The check value.
+    fn check(&mut self) -> Result<(), Failure> {
+        let before: usize = self.lines.iter().take(self.read).map(|line| line.len() + 1).sum();
+        let expected = crc32(&self.bytes[..before]);
+        let found = self.bytes("check", 4)?;
+        if found != expected.to_be_bytes() {
+            let found = hexadecimal(&found);
+            let why = format!("it is {found}, but what stands before it gives {expected:08x}: something has changed");
+            return Err(self.fault(why));
+        }
+        Ok(())
     }
 
     fn next_line(&mut self) -> Result<&'a str, Failure> {
@@ -233,20 +331,22 @@ impl<'a> Reader<'a> {
         })
     }
 
-    /// Of the numbers in lines 2 to 4: that L is one, that the data fill the stripes, and that files can be so long.
+    /// Of the three numbers: that L is one, that the data fill the stripes, and that files can be so long.
     fn fits(&self, code: &Code, symbol_length: u64, stripes: u64, length: u64) -> Result<(), Failure> {
         if !(1..=65536).contains(&symbol_length) {
-            return Err(self.fault_at(2, format!("a symbol is 1 to 65536 bytes long, not {symbol_length}")));
+            return Err(
+                self.fault_at(self.before + 1, format!("a symbol is 1 to 65536 bytes long, not {symbol_length}"))
+            );
         }
         let expected = stripes_for(code, symbol_length, length);
         if stripes != expected {
             let (piece, expected) = (code.data as u64 * symbol_length, counted(expected, "stripe"));
             let why = format!("{length} bytes of data, {piece} a stripe, fill {expected}, not {stripes}");
-            return Err(self.fault_at(3, why));
+            return Err(self.fault_at(self.before + 2, why));
         }
         match stripes.checked_mul(code.rows as u64 * symbol_length) {
             Some(0..=0x7fff_ffff_ffff_ffff) => Ok(()),
-            _ => Err(self.fault_at(4, format!("{length} bytes of data are more than files can hold"))),
+            _ => Err(self.fault_at(self.before + 3, format!("{length} bytes of data are more than files can hold"))),
         }
     }
 

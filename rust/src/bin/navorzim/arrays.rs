@@ -1,6 +1,7 @@
 //! `split`, `status` and `join`: a file as an array of disks, how the array does, and the file again.
 use crate::arguments::Arguments;
-use crate::array::Array;
+use crate::array::{Array, NO_LABELS};
+use crate::birth::Birth;
 use crate::commands::all_but;
 use crate::disks::Disks;
 use crate::failure::{printable, Failure};
@@ -42,8 +43,9 @@ pub fn split(arguments: &mut Arguments) -> Result<String, Failure> {
 
 /// Writes an array's disks, and when they are complete its description, with the length that the data turn out to have.
 fn write(mut stream: Stream, path: &Path, code: Code, symbol_length: u64) -> Result<Array, Failure> {
+    let birth = Birth::draw()?;
     let mut folder = NewFolder::make(path)?;
-    let array = Array::new(folder.open(), code, symbol_length, 0);
+    let array = Array::new(folder.open(), birth.clone(), code, symbol_length, 0);
     let begin = |disk: usize| Replacement::begin_new(array.disk(disk), Model::New);
     let mut disks = (0..array.code.disks).map(begin).collect::<Result<Vec<_>, Failure>>()?;
     let code = &array.code;
@@ -58,12 +60,13 @@ fn write(mut stream: Stream, path: &Path, code: Code, symbol_length: u64) -> Res
         }
         progress.advance(1);
     }
+    let length = stream.input().taken();
+    let array = Array::new(folder.open(), birth, array.code, symbol_length, length);
     for (disk, file) in disks.iter_mut().enumerate() {
         progress.flushing(array.name(disk).to_string());
+        file.write(&array.label(disk))?;
         file.complete()?;
     }
-    let length = stream.input().taken();
-    let array = Array::new(folder.open(), array.code, symbol_length, length);
     let mut description = Replacement::begin_new(array.description(), Model::New)?;
     description.write(array.text().as_bytes())?;
     for (disk, file) in disks.into_iter().enumerate() {
@@ -84,12 +87,21 @@ fn contents(array: &Array) -> String {
     )
 }
 
+/// What must be known of an array of version 1, as a line.
+pub fn caution(array: &Array) -> String {
+    match array.birth {
+        Some(_) => String::new(),
+        None => format!("  {NO_LABELS}\n"),
+    }
+}
+
 pub fn status(arguments: &mut Arguments) -> Result<String, Failure> {
     let (folder, links) = (arguments.file("ARRAY")?, arguments.links());
     arguments.finish()?;
     let (array, _) = Array::open(&folder, links)?;
     let inventory = Inventory::take(&array)?;
     let mut text = format!("{}: {}\n  {}\n", printable(&folder), array.code.title(), contents(&array));
+    text.push_str(&caution(&array));
     for disk in 0..array.code.disks {
         text.push_str(&disk_line(&array, &inventory, disk));
     }
@@ -122,7 +134,9 @@ fn disk_line(array: &Array, inventory: &Inventory, disk: usize) -> String {
     let found = match &inventory.disks[disk] {
         Found::There => counted(array.disk_length(), "byte"),
         Found::Missing => "missing".to_string(),
-        Found::Length(_) | Found::SameAs(_) | Found::Unfit(_) => inventory.fault(array, disk).unwrap_or_default(),
+        Found::Length(_) | Found::SameAs(_) | Found::Stranger(_) | Found::Unfit(_) => {
+            inventory.fault(array, disk).unwrap_or_default()
+        }
     };
     format!("  disk {disk:<3} {role:<4}  {}  {found}\n", array.name(disk))
 }
@@ -155,7 +169,11 @@ pub fn join(arguments: &mut Arguments) -> Result<String, Failure> {
         None => String::new(),
         Some(_) => format!(", with {} rebuilt on the way", lost.words()),
     };
-    Ok(format!("wrote {}: {}{rebuilt}\n", printable(&output), counted(array.length, "byte")))
+    let mut text = format!("wrote {}: {}{rebuilt}\n", printable(&output), counted(array.length, "byte"));
+    text.push_str(&caution(&array));
+    let faults = (0..array.code.disks).filter_map(|disk| Some((disk, inventory.fault(&array, disk)?)));
+    text.extend(faults.map(|(disk, fault)| format!("  {} isn't read: {fault}\n", array.name(disk))));
+    Ok(text)
 }
 
 /// Writes the data, stripe by stripe and in each symbol by symbol, as far as they go.

@@ -87,7 +87,7 @@ impl Demo {
         let restored = self.read("array/disk-0")?;
         self.note(&format!("disk 0 begins  {}", first_line(&restored)));
         self.must(restored == disk_0, "disk 0 isn't as it was")?;
-        self.note(&format!("compared: all {} bytes of array/disk-0 are as they were", restored.len()));
+        self.note(&format!("compared: all {} bytes of array/disk-0 are as they were, its label too", restored.len()));
 
         self.lose("array/disk-0")?;
         self.lose("array/disk-3")?;

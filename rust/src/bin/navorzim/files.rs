@@ -185,7 +185,7 @@ impl Held {
 }
 
 /// Opens a file if it is a regular one.
-fn open_regular(place: &Place, purpose: Purpose, links: Links) -> Result<File, Failure> {
+pub fn open_regular(place: &Place, purpose: Purpose, links: Links) -> Result<File, Failure> {
     let (named, path) = (place.named(), place.path());
     let fails = |error: io::Error| trouble(purpose.verb(), named, error);
     let regular = |found: &Metadata| match kind(found) {

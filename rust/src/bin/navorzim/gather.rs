@@ -69,8 +69,8 @@ impl<'a> Survivors<'a> {
         let disks = of_one_disk.map(|symbols| {
             let disk = code.disk_of(symbols[0]);
             let held = Held::open_at(array.disk(disk), Purpose::Read, array.links)?;
-            if held.length() != array.disk_length() {
-                return Err(trouble("use", held.named(), "it has just changed its length"));
+            if held.length() != array.file_length() || !array.is_labelled(&held.file, disk) {
+                return Err(trouble("use", held.named(), "it has just changed its length or its label"));
             }
             let runs = symbols.chunk_by(|one, next| one + 1 == *next);
             let runs = runs.map(|run| code.row_of(run[0])..code.row_of(run[0]) + run.len()).collect();

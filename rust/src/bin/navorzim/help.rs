@@ -81,8 +81,10 @@ usage: navorzim split CODE --symbol L DATA -o ARRAY
 
 Makes an array of the file DATA: the folder ARRAY, which must be new or empty, with a file for
 each disk, disk-0 and so on, and a text, `array`, that describes them. A disk's file holds its
-strip of each stripe, r × L bytes, one after the other. The last stripe is filled up with zeros;
-`array` has the data's length, so that join gives back just what was there.
+strip of each stripe, r × L bytes, one after the other, and then a label: whose disk it is. The
+last stripe is filled up with zeros; `array` has the data's length, so that join gives back just
+what was there. Each split draws an identity from the system, so that no disk of another array,
+or of an older version of the same data, is ever taken for one of this array.
 
 A file has its name only when it is complete, and `array` comes last.
 
@@ -97,9 +99,9 @@ example: navorzim split code.sheet --symbol 64 register.txt -o array/
 pub const STATUS: &str = "\
 usage: navorzim status ARRAY [--links]
 
-Says of each disk of an array whether its file is there and has the right length, what else is
-in the folder, and whether the disks that aren't there can be rebuilt, and what that reads.
-Nothing is written, and no disk's file is read.
+Says of each disk of an array whether its file is there and has the right length and label, what
+else is in the folder, and whether the disks that aren't there can be rebuilt, and what that
+reads. Nothing is written, and of a disk's file only the label is read.
 
   --links      takes links in the disks' places, for arrays whose disks lie on several media;
                without it a link is no disk
@@ -116,7 +118,8 @@ usage: navorzim restore ARRAY [DISKS] [--plan PLAN] [--dry-run] [--links]
 Rebuilds the missing disks of an array, or of those only DISKS: one like 3, or several like 0,3.
 Plans anew from the code in `array`, has the plan checked, for every block of stripes again,
 and opens only the disks and reads only the symbols that it needs. Surviving disks are never
-written. What stands in a disk's place is never replaced: move it away first. A disk's file has
+written. What stands in a disk's place is never replaced: move it away first; by its label a disk
+of another array is known, and never read as one of this array. A disk's file has
 its name only when it is complete. Its rights are no wider than those of every file that was
 read; it goes to another owner or group only if they and the folder all have that, else it stays
 with whoever runs this, mode 600.

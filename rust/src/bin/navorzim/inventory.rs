@@ -2,11 +2,12 @@
 use crate::array::Array;
 use crate::disks::Disks;
 use crate::failure::{printable, Failure};
-use crate::files::{kind, trouble, Links};
+use crate::files::{kind, open_regular, trouble, Links, Purpose};
+use crate::label::Label;
 use crate::replacement::is_temporary;
 use std::collections::HashMap;
 use std::ffi::OsString;
-use std::fs;
+use std::fs::{self, File, Metadata};
 use std::io::ErrorKind;
 use std::os::unix::fs::MetadataExt;
 use std::path::Path;
@@ -14,7 +15,7 @@ use std::path::Path;
 /// How a disk's file was found.
 #[derive(Clone, Debug, PartialEq, Eq)]
 pub enum Found {
-    /// a regular file of the right length
+    /// a regular file of the right length, with the disk's label
     There,
     /// no file
     Missing,
@@ -22,6 +23,8 @@ pub enum Found {
     Length(u64),
     /// the very file of a disk before it
     SameAs(usize),
+    /// the file of another disk or another array, or of none
+    Stranger(String),
     /// what is no file, or can't be looked at
     Unfit(String),
 }
@@ -36,18 +39,22 @@ pub struct Inventory {
 
 impl Inventory {
     pub fn take(array: &Array) -> Result<Inventory, Failure> {
-        let mut files = HashMap::new();
-        let disks = (0..array.code.disks).map(|disk| {
-            match found(&array.disk(disk).path(), array.disk_length(), array.links) {
+        let (mut disks, mut files) = (Vec::new(), HashMap::new());
+        for disk in 0..array.code.disks {
+            let (found, file) = match look(array, disk) {
+                Err(unfit) => (unfit, (0, 0)),
                 // Links of both kinds are seen through.
-                (Found::There, identity) => match files.insert(identity, disk) {
-                    Some(before) => Found::SameAs(before),
-                    None => Found::There,
+                Ok(found) => match files.get(&(found.dev(), found.ino())) {
+                    Some(&before) => (Found::SameAs(before), (0, 0)),
+                    None => (known(array, disk, &found)?, (found.dev(), found.ino())),
                 },
-                (found, _) => found,
+            };
+            if found == Found::There {
+                files.insert(file, disk);
             }
-        });
-        Ok(Inventory { disks: disks.collect(), extra: extra(array)? })
+            disks.push(found);
+        }
+        Ok(Inventory { disks, extra: extra(array)? })
     }
 
     /// The disks that can't be read.
@@ -68,9 +75,9 @@ impl Inventory {
     pub fn fault(&self, array: &Array, disk: usize) -> Option<String> {
         match self.disks.get(disk)? {
             Found::There | Found::Missing => None,
-            Found::Length(length) => Some(format!("it has {length} bytes, not {}", array.disk_length())),
+            Found::Length(length) => Some(format!("it has {length} bytes, not {}", array.file_length())),
             Found::SameAs(before) => Some(format!("it is the same file as {}", array.name(*before))),
-            Found::Unfit(why) => Some(why.clone()),
+            Found::Stranger(why) | Found::Unfit(why) => Some(why.clone()),
         }
     }
 
@@ -84,25 +91,67 @@ impl Inventory {
     }
 }
 
-/// How a file was found, and which it is.
-fn found(path: &Path, length: u64, links: Links) -> (Found, (u64, u64)) {
-    let unfit = |why: String| (Found::Unfit(why), (0, 0));
-    let found = match links {
-        Links::Followed => fs::metadata(path),
-        Links::Refused => fs::symlink_metadata(path),
+/// The regular file in a disk's place.
+fn look(array: &Array, disk: usize) -> Result<Metadata, Found> {
+    let path = array.disk(disk).path();
+    let found = match array.links {
+        Links::Followed => fs::metadata(&path),
+        Links::Refused => fs::symlink_metadata(&path),
     };
     match found {
         Ok(found) => match kind(&found) {
-            Some(kind) => unfit(format!("it is {kind}")),
-            None if found.len() != length => (Found::Length(found.len()), (0, 0)),
-            None => (Found::There, (found.dev(), found.ino())),
+            Some(kind) => Err(Found::Unfit(format!("it is {kind}"))),
+            None => Ok(found),
         },
-        Err(error) if error.kind() == ErrorKind::NotFound => match fs::symlink_metadata(path) {
-            Ok(_) => unfit("it is a link to nothing".to_string()),
-            Err(_) => (Found::Missing, (0, 0)),
+        Err(error) if error.kind() == ErrorKind::NotFound => match fs::symlink_metadata(&path) {
+            Ok(_) => Err(Found::Unfit("it is a link to nothing".to_string())),
+            Err(_) => Err(Found::Missing),
         },
-        Err(error) => unfit(error.to_string()),
+        Err(error) => Err(Found::Unfit(error.to_string())),
     }
+}
+
+/// Whose file it is, by its label. Nobody is asked for a lock: what is read later is compared again then.
+fn known(array: &Array, disk: usize, found: &Metadata) -> Result<Found, Failure> {
+    let by_length = match found.len() == array.file_length() {
+        true => Found::There,
+        false => Found::Length(found.len()),
+    };
+    if array.birth.is_none() {
+        return Ok(by_length);
+    }
+    let Ok(file) = open_regular(&array.disk(disk), Purpose::Read, array.links) else {
+        return Ok(Found::Unfit("it can't be opened for reading".to_string()));
+    };
+    match array.is_labelled(&file, disk) {
+        true => Ok(by_length),
+        false => Ok(stranger(array, disk, &file)?.unwrap_or(match by_length {
+            Found::There => Found::Stranger("it has no label, or a damaged one: whose it is isn't known".to_string()),
+            other => other,
+        })),
+    }
+}
+
+/// What the label of a file says that isn't the disk's; none where it says nothing. Of an array that has the same identity and another
+/// description nothing can be believed.
+fn stranger(array: &Array, disk: usize, file: &File) -> Result<Option<Found>, Failure> {
+    let Ok(Some(label)) = Label::read(file) else { return Ok(None) };
+    let path = array.disk(disk);
+    let Ok(other) = Array::read(&array.folder, array.links, path.named(), &label.text) else { return Ok(None) };
+    let number = label.disk;
+    if other.birth.map(|birth| birth.identity) != array.birth.as_ref().map(|birth| birth.identity) {
+        return Ok(Some(Found::Stranger(format!("this is disk {number} of another array"))));
+    }
+    if label.text != array.text().into_bytes() {
+        let (here, there) = (array.text(), String::from_utf8_lossy(&label.text).to_string());
+        let differs = here.lines().zip(there.lines()).enumerate().find(|(_, (here, there))| here != there);
+        let what = differs.map_or("one is longer".to_string(), |(line, (here, there))| {
+            format!("line {} is '{here}' in `array`, and '{there}' in the label", line + 1)
+        });
+        return Err(trouble("use", path.named(), format!("its label and `array` disagree: {what}")));
+    }
+    let name = array.name(disk);
+    Ok(Some(Found::Stranger(format!("this is disk {number} of this array, under the name {name}"))))
 }
 
 fn extra(array: &Array) -> Result<Vec<OsString>, Failure> {

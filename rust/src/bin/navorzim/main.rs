@@ -6,6 +6,8 @@
 mod arguments;
 mod array;
 mod arrays;
+mod birth;
+mod checksum;
 mod commands;
 mod demo;
 mod disks;
@@ -15,6 +17,7 @@ mod folders;
 mod gather;
 mod help;
 mod inventory;
+mod label;
 mod lists;
 mod output;
 mod picture;

@@ -1,6 +1,7 @@
 //! `restore`: the missing disks of an array, made anew from the others.
 use crate::arguments::Arguments;
 use crate::array::Array;
+use crate::arrays::caution;
 use crate::disks::Disks;
 use crate::failure::{printable, Failure};
 use crate::files::{trouble, Held};
@@ -115,6 +116,7 @@ fn write(array: &Array, description: &Held, lost: &Disks, targets: &Disks, plan:
     let progress = Progress::new(Some(array.stripes));
     Work { array, recovery: &recovery, disks: &disks, progress: &progress, next: AtomicU64::new(0) }.run()?;
     for (disk, file) in &mut disks {
+        file.write_at(&array.label(*disk), array.disk_length())?;
         progress.flushing(array.name(*disk).to_string());
         file.complete()?;
     }
@@ -126,12 +128,13 @@ fn write(array: &Array, description: &Held, lost: &Disks, targets: &Disks, plan:
     let written = bytes_written(array, targets);
     let (all, seconds) = (bytes_read(array, &sources).saturating_add(written), began.elapsed().as_secs_f64());
     Ok(format!(
-        "restored {}: {}\n  read {}\n  wrote {}, in {seconds:.2} s: {:.0} MB/s\n",
+        "restored {}: {}\n  read {}\n  wrote {}, in {seconds:.2} s: {:.0} MB/s\n{}",
         targets.words(),
         files(array, targets),
         reading(array, &sources),
         counted(written, "byte"),
-        all as f64 / 1e6 / seconds.max(1e-9)
+        all as f64 / 1e6 / seconds.max(1e-9),
+        caution(array)
     ))
 }
 

@@ -95,6 +95,11 @@ impl Code {
         )
     }
 
+    /// The family's name and parameters, if it is a known one.
+    pub fn family_name(&self) -> Option<String> {
+        self.family().map(|(_, name)| name)
+    }
+
     /// The family, if it is a known one, and the shape.
     pub fn title(&self) -> String {
         match self.family() {
