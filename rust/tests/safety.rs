@@ -359,3 +359,59 @@ fn every_flipped_bit_of_a_label_is_refused() {
         assert!(ran.status == 1 && ran.out.contains(said), "bit {place}: {ran:?}");
     }
 }
+
+#[test]
+fn a_lost_description_is_taken_from_the_labels() {
+    let folder = morning_and_noon();
+    let text = folder.get("noon/array");
+    folder.remove("noon/array");
+    folder.remove("noon/disk-3");
+    let ran = folder.run("status noon");
+    assert!(ran.out.contains("  array: missing; the labels have it, and restore writes it anew\n"), "{ran:?}");
+    folder.done("join noon -o joined");
+    assert_eq!(folder.get("joined"), folder.get("noon.txt"));
+    let said = folder.done("restore noon --dry-run");
+    assert!(said.ends_with("would write noon/array anew, from the labels\n") && !folder.has("noon/array"), "{said}");
+    let said = folder.done("restore noon");
+    assert!(said.ends_with("wrote noon/array anew, from the labels\n"), "{said}");
+    assert_eq!(folder.get("noon/array"), text);
+    folder.done("status noon");
+    // With all disks there, it alone is written.
+    folder.remove("noon/array");
+    let said = folder.done("restore noon");
+    assert_eq!(said, "nothing to restore: all 7 disks are there\nwrote noon/array anew, from the labels\n");
+    assert_eq!(folder.get("noon/array"), text);
+    // Where labels disagree, nobody knows whose folder it is.
+    folder.remove("noon/array");
+    folder.put("noon/disk-5", &folder.get("morning/disk-5"));
+    for line in ["status noon", "restore noon", "join noon -o other"] {
+        let said = folder.misused(line);
+        let expected = "can't read noon/array: it isn't there, and the labels of disk-0 and disk-5 describe two arrays";
+        assert!(said.contains(expected), "{line}: {said}");
+    }
+    fs::create_dir(folder.0.join("empty")).expect("made");
+    assert!(folder.misused("status empty").contains("can't read empty/array: No such file"));
+}
+
+#[test]
+fn a_description_that_disagrees_with_the_labels_is_named() {
+    let folder = morning_and_noon();
+    let text = String::from_utf8(folder.get("noon/array")).expect("text");
+    let lines: Vec<&str> = text.lines().collect();
+    let last = lines.len() - 2;
+    for (line, new) in
+        [(2, "made long ago".to_string()), (6, "length 2999".to_string()), (last, "disk 6 q".to_string())]
+    {
+        let mut changed = lines.clone();
+        changed[line] = &new;
+        let before: String = changed[..=last].iter().map(|line| format!("{line}\n")).collect();
+        let changed = format!("{before}check {:08x}\n", model::crc32(before.as_bytes()));
+        folder.put("noon/array", changed.as_bytes());
+        for command in ["status noon", "restore noon", "join noon -o other"] {
+            let said = folder.misused(command);
+            let what = format!("line {} is '{new}' in `array`, and '{}' in the label", line + 1, lines[line]);
+            let expected = format!("can't use noon/disk-0: its label and `array` disagree: {what}");
+            assert!(said.contains(&expected), "{said}");
+        }
+    }
+}

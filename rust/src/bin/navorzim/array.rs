@@ -4,7 +4,7 @@ use crate::birth::Birth;
 use crate::checksum::crc32;
 use crate::failure::{printable, Failure, Refused};
 use crate::files::{is_standard, trouble, Held, Links, Purpose};
-use crate::label::Label;
+use crate::label::{self, Label};
 use crate::lists::decimal;
 use crate::place::{OpenFolder, Place};
 use crate::replacement::is_temporary;
@@ -12,7 +12,7 @@ use crate::sheets::{counted, Code};
 use navorzim::Refusal;
 use std::ffi::OsStr;
 use std::fs::{self, File};
-use std::io::Read;
+use std::io::{ErrorKind, Read};
 use std::os::unix::fs::{FileExt, MetadataExt};
 use std::path::Path;
 use std::sync::Arc;
@@ -58,15 +58,21 @@ impl Array {
         Array { folder, links, birth, family, code, symbol_length, stripes, length, names }
     }
 
-    /// Opens a folder, for all that is done there, and reads its description, which stays open and locked.
-    pub fn open(folder: &Path, links: Links) -> Result<(Array, Held), Failure> {
+    /// Opens a folder, for all that is done there, and reads its description, which stays open and locked. Where it is lost, the labels
+    /// have it.
+    pub fn open(folder: &Path, links: Links) -> Result<(Array, Option<Held>), Failure> {
         let path = folder.join(NAME);
         let folder = OpenFolder::open(folder).map_err(|error| trouble("read", &path, error))?;
+        if fs::symlink_metadata(folder.at(NAME).path()).is_err_and(|error| error.kind() == ErrorKind::NotFound) {
+            if let Some(text) = label::agreed(&folder, links, &path)? {
+                return Ok((Array::read(&folder, links, &path, &text)?, None));
+            }
+        }
         let held = Held::open_at(folder.at(NAME), Purpose::Read, links)?;
         let mut bytes = Vec::new();
         let read = (&held.file).take(LONGEST as u64 + 1).read_to_end(&mut bytes);
         read.map_err(|error| trouble("read", &path, error))?;
-        Ok((Array::read(&folder, links, &path, &bytes)?, held))
+        Ok((Array::read(&folder, links, &path, &bytes)?, Some(held)))
     }
 
     /// Reads a description. A fault is that of the file at the path.

@@ -98,12 +98,15 @@ pub fn caution(array: &Array) -> String {
 pub fn status(arguments: &mut Arguments) -> Result<String, Failure> {
     let (folder, links) = (arguments.file("ARRAY")?, arguments.links());
     arguments.finish()?;
-    let (array, _) = Array::open(&folder, links)?;
+    let (array, description) = Array::open(&folder, links)?;
     let inventory = Inventory::take(&array)?;
     let mut text = format!("{}: {}\n  {}\n", printable(&folder), array.code.title(), contents(&array));
     text.push_str(&caution(&array));
     for disk in 0..array.code.disks {
         text.push_str(&disk_line(&array, &inventory, disk));
+    }
+    if description.is_none() {
+        text.push_str("  array: missing; the labels have it, and restore writes it anew\n");
     }
     for extra in inventory.extra_words() {
         text.push_str(&format!("  {extra}\n"));
@@ -159,12 +162,12 @@ pub fn join(arguments: &mut Arguments) -> Result<String, Failure> {
         }
     };
     let recovery = Recovery::open(&array, &lost, plan.as_ref(), &there)?;
-    let kept: Vec<&Path> = recovery.survivors().held().map(Held::named).chain([description.named()]).collect();
+    let kept: Vec<&Path> = recovery.survivors().held().chain(&description).map(Held::named).collect();
     let mut file = Output::begin(&output, &kept)?;
     let progress = Progress::new(Some(array.stripes));
     write_data(&array, &recovery, &homes, &mut file, &progress)?;
     progress.flushing("it".to_string());
-    file.finish(recovery.survivors().held().chain([&description]))?;
+    file.finish(recovery.survivors().held().chain(&description))?;
     let rebuilt = match plan {
         None => String::new(),
         Some(_) => format!(", with {} rebuilt on the way", lost.words()),

@@ -124,6 +124,8 @@ its name only when it is complete. Its rights are no wider than those of every f
 read; it goes to another owner or group only if they and the folder all have that, else it stays
 with whoever runs this, mode 600.
 
+Where `array` is lost, the labels have it, if those that are there agree: it is written anew.
+
   --plan PLAN  goes by this plan, which is checked like any other. It must be for all disks that
                can't be read, and bring the whole disks back
   --dry-run    says what would be read and written, and does nothing

@@ -1,10 +1,17 @@
 //! The label at the end of a disk's file: the array's whole description, and a line with the disk's number and a check value.
 use crate::array::Array;
 use crate::checksum::crc32;
+use crate::failure::Failure;
+use crate::files::{open_regular, trouble, Links, Purpose};
 use crate::lists::decimal;
-use std::fs::File;
+use crate::place::OpenFolder;
+use crate::replacement::is_temporary;
+use std::ffi::OsStr;
+use std::fs::{self, File};
 use std::io;
 use std::os::unix::fs::FileExt;
+use std::path::Path;
+use std::sync::Arc;
 
 /// What the last line begins with.
 const HEAD: &str = "navorzim label 1 disk ";
@@ -51,6 +58,28 @@ impl Label {
         // One spelling only: the check value and every other byte are as they would be written.
         Ok((label.bytes() == bytes).then_some(label))
     }
+}
+
+/// The description that the labels in a folder have, if there are any: they must agree. `path` is where it should be.
+pub fn agreed(folder: &Arc<OpenFolder>, links: Links, path: &Path) -> Result<Option<Vec<u8>>, Failure> {
+    let entries = fs::read_dir(folder.path()).map_err(|error| trouble("read", folder.named(), error))?;
+    let names = entries.flatten().filter_map(|entry| entry.file_name().into_string().ok());
+    let mut names: Vec<String> = names.filter(|name| !is_temporary(OsStr::new(name))).collect();
+    names.sort();
+    let mut agreed: Option<(String, Label)> = None;
+    for name in names {
+        let file = open_regular(&folder.at(&name), Purpose::Read, links).ok();
+        let Some(label) = file.and_then(|file| Label::read(&file).ok()?) else { continue };
+        match &agreed {
+            None => agreed = Some((name, label)),
+            Some((_, first)) if first.text == label.text => {}
+            Some((first, _)) => {
+                let why = format!("it isn't there, and the labels of {first} and {name} describe two arrays");
+                return Err(trouble("read", path, why));
+            }
+        }
+    }
+    Ok(agreed.map(|(_, label)| label.text))
 }
 
 /// The disk, and how long the description is.

@@ -4,7 +4,7 @@ use crate::array::Array;
 use crate::arrays::caution;
 use crate::disks::Disks;
 use crate::failure::{printable, Failure};
-use crate::files::{trouble, Held};
+use crate::files::{open_regular, trouble, Held, Purpose};
 use crate::gather::{Block, Blocks};
 use crate::inventory::{Found, Inventory};
 use crate::planning::{checked, checked_plan};
@@ -32,24 +32,51 @@ pub fn run(arguments: &mut Arguments) -> Result<String, Failure> {
     let (array, description) = Array::open(&folder, links)?;
     let inventory = Inventory::take(&array)?;
     let targets = targets(&array, &inventory, asked)?;
-    if targets.count() == 0 {
-        return Ok(format!("nothing to restore: all {} are there\n", counted(array.code.disks, "disk")));
-    }
-    let lost = inventory.lost();
-    let plan = match given {
-        Some(given) => given_plan(&array.code, &lost, &targets, &given)?,
-        None => plan_for(&array.code, &lost, &targets)?,
+    let mut text = match targets.count() {
+        0 => format!("nothing to restore: all {} are there\n", counted(array.code.disks, "disk")),
+        _ => {
+            let lost = inventory.lost();
+            let plan = match given {
+                Some(given) => given_plan(&array.code, &lost, &targets, &given)?,
+                None => plan_for(&array.code, &lost, &targets)?,
+            };
+            match dry_run {
+                true => would_write(&array, &lost, &targets, &plan),
+                false => write(&array, description.as_ref(), &lost, &targets, &plan)?,
+            }
+        }
     };
-    if dry_run {
-        return Ok(format!(
-            "would restore {}: {}\n  would read {}\n  would write {}\n",
-            targets.words(),
-            files(&array, &targets),
-            reading(&array, &plan.sources(&array.code, &lost)),
-            counted(bytes_written(&array, &targets), "byte")
-        ));
+    if description.is_none() {
+        text.push_str(&describe(&array, &inventory, dry_run)?);
     }
-    write(&array, &description, &lost, &targets, &plan)
+    Ok(text)
+}
+
+/// What would be read and written.
+fn would_write(array: &Array, lost: &Disks, targets: &Disks, plan: &Plan) -> String {
+    format!(
+        "would restore {}: {}\n  would read {}\n  would write {}\n",
+        targets.words(),
+        files(array, targets),
+        reading(array, &plan.sources(&array.code, lost)),
+        counted(bytes_written(array, targets), "byte")
+    )
+}
+
+/// Writes the description anew, as the labels have it.
+fn describe(array: &Array, inventory: &Inventory, dry_run: bool) -> Result<String, Failure> {
+    let place = array.description();
+    let named = printable(place.named());
+    if dry_run {
+        return Ok(format!("would write {named} anew, from the labels\n"));
+    }
+    let there = (0..array.code.disks).filter(|&disk| inventory.disks[disk] == Found::There);
+    let sources = there.map(|disk| open_regular(&array.disk(disk), Purpose::Read, array.links));
+    let model = Model::MadeOf(sources.collect::<Result<Vec<_>, Failure>>()?);
+    let mut file = Replacement::begin_new(place, model)?;
+    file.write(array.text().as_bytes())?;
+    file.finish(None)?;
+    Ok(format!("wrote {named} anew, from the labels\n"))
 }
 
 /// The disks that are to be restored: those that are asked for, or else all that are missing. Nothing that is there is replaced.
@@ -104,10 +131,16 @@ fn files(array: &Array, disks: &Disks) -> String {
 }
 
 /// Makes the disks and gives them their names.
-fn write(array: &Array, description: &Held, lost: &Disks, targets: &Disks, plan: &Plan) -> Result<String, Failure> {
+fn write(
+    array: &Array,
+    description: Option<&Held>,
+    lost: &Disks,
+    targets: &Disks,
+    plan: &Plan,
+) -> Result<String, Failure> {
     let began = Instant::now();
     let recovery = Recovery::open(array, lost, Some(plan), &[])?;
-    let read = || recovery.survivors().held().chain([description]);
+    let read = || recovery.survivors().held().chain(description);
     let begin = |disk: u64| {
         let sources = read().map(|held| Ok(held.again()?.file)).collect::<Result<Vec<_>, Failure>>()?;
         Ok((disk as usize, Replacement::begin_new(array.disk(disk as usize), Model::MadeOf(sources))?))
