@@ -816,22 +816,22 @@ fn a_split_that_fails_leaves_nothing() {
     let before = folder.contents();
     for (command, said) in [
         ("printf x >>data", "can't use data: it changed while it was read"),
-        ("printf x >array/disk-2", "can't write array/disk-2: somebody else made it meanwhile"),
-        ("printf x >array/array", "can't write array/array: it exists, and isn't replaced"),
+        ("mkdir -p array && printf x >array/disk-2", "can't make array: somebody else made it meanwhile"),
+        ("printf x >array", "can't make array: somebody else made it meanwhile"),
     ] {
         let ran = folder.run_with("split code --symbol 1 data -o array", "AT_FLUSH", command);
         assert_eq!(ran.status, 2, "{command}: {ran:?}");
         assert!(ran.err.contains(said), "{command}: {ran:?}");
-        let theirs = command.split("array/").nth(1).map(|name| format!("array/{name}"));
+        let theirs = command.split(">array").nth(1).map(|name| format!("array{name}"));
         let left: Vec<PathBuf> = folder.contents().into_keys().filter(|path| !before.contains_key(path)).collect();
         let expected: Vec<PathBuf> = match &theirs {
+            Some(name) if name == "array" => vec![folder.0.join("array")],
             Some(name) => vec![folder.0.join("array"), folder.0.join(name)],
             None => Vec::new(),
         };
         assert_eq!(left, expected, "{command}");
-        if theirs.is_some() {
-            fs::remove_dir_all(folder.0.join("array")).expect("removed");
-        }
+        let _ = fs::remove_dir_all(folder.0.join("array"));
+        let _ = fs::remove_file(folder.0.join("array"));
         folder.put("data", &before[&folder.0.join("data")]);
     }
 }

@@ -2,9 +2,11 @@
 mod folder;
 mod model;
 
-use folder::{sheet, Folder};
+use folder::{sheet, shim, Folder, TOOL};
 use std::fs::{self, Permissions};
 use std::os::unix::fs::{chown, symlink, MetadataExt, PermissionsExt};
+use std::os::unix::process::ExitStatusExt;
+use std::process::Command;
 use std::sync::atomic::{AtomicBool, Ordering};
 use std::thread;
 
@@ -414,4 +416,58 @@ fn a_description_that_disagrees_with_the_labels_is_named() {
             assert!(said.contains(&expected), "{said}");
         }
     }
+}
+
+/// At each moment at which a file is brought to the disk the tool is killed, as far as it has come.
+#[test]
+fn a_split_that_is_killed_leaves_nothing_under_its_name() {
+    let folder = Folder::square();
+    for made in [false, true] {
+        for moment in 1..=5 {
+            let command = format!("echo x >>count; [ $(wc -l <count) -lt {moment} ] || kill -KILL $PPID");
+            let _ = fs::remove_file(folder.0.join("count"));
+            if made {
+                let _ = fs::create_dir(folder.0.join("array"));
+            }
+            let mut tool = Command::new(TOOL);
+            let tool = tool.args("split code --symbol 1 data -o array".split(' ')).current_dir(&folder.0);
+            let ended = tool.env("LD_PRELOAD", shim()).env("AT_FLUSH", command).output().expect("it runs").status;
+            assert_eq!(ended.signal(), Some(9), "moment {moment}");
+            let under_its_name = fs::read_dir(folder.0.join("array")).map(|entries| entries.count());
+            assert_eq!(under_its_name.ok(), made.then_some(0), "moment {moment}");
+            // What is left is one temporary folder, and goes with the next run.
+            let left = fs::read_dir(&folder.0).expect("there").flatten().map(|entry| entry.file_name());
+            let left = left.filter(|name| name.to_string_lossy().starts_with(".navorzim-")).count();
+            assert_eq!(left, 1, "moment {moment}");
+        }
+        folder.done("split code --symbol 1 data -o array");
+        assert_eq!(folder.temporaries(), 0);
+        folder.done("join array -o joined");
+        assert_eq!(folder.get("joined"), folder.get("data"));
+        fs::remove_dir_all(folder.0.join("array")).expect("removed");
+    }
+}
+
+#[test]
+fn an_array_has_the_rights_of_the_empty_folder_that_it_replaces() {
+    let folder = Folder::square();
+    let mode = |name: &str| fs::metadata(folder.0.join(name)).expect("there").mode() & 0o7777;
+    for rights in [0o700, 0o750, 0o2775] {
+        fs::create_dir(folder.0.join("array")).expect("made");
+        fs::set_permissions(folder.0.join("array"), Permissions::from_mode(rights)).expect("set");
+        symlink("array", folder.0.join("link")).expect("a link");
+        folder.done("split code --symbol 1 data -o link/");
+        assert_eq!(mode("array"), rights);
+        fs::remove_dir_all(folder.0.join("array")).expect("removed");
+        folder.remove("link");
+    }
+    // Else those that any program gives a folder.
+    fs::create_dir(folder.0.join("other")).expect("made");
+    folder.done("split code --symbol 1 data -o array");
+    assert_eq!(mode("array"), mode("other"));
+    // Where there is no name that could change its meaning.
+    let mut tool = Command::new(TOOL);
+    let ran = tool.args("split ../code --symbol 1 ../data -o .".split(' ')).current_dir(folder.0.join("other"));
+    let ran = String::from_utf8(ran.output().expect("it runs").stderr).expect("text");
+    assert!(ran.contains("can't use .: the folder one is in isn't replaced: name a new one in it"), "{ran}");
 }

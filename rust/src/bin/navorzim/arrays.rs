@@ -44,7 +44,7 @@ pub fn split(arguments: &mut Arguments) -> Result<String, Failure> {
 /// Writes an array's disks, and when they are complete its description, with the length that the data turn out to have.
 fn write(mut stream: Stream, path: &Path, code: Code, symbol_length: u64) -> Result<Array, Failure> {
     let birth = Birth::draw()?;
-    let mut folder = NewFolder::make(path)?;
+    let folder = NewFolder::make(path)?;
     let array = Array::new(folder.open(), birth.clone(), code, symbol_length, 0);
     let begin = |disk: usize| Replacement::begin_new(array.disk(disk), Model::New);
     let mut disks = (0..array.code.disks).map(begin).collect::<Result<Vec<_>, Failure>>()?;
@@ -69,11 +69,10 @@ fn write(mut stream: Stream, path: &Path, code: Code, symbol_length: u64) -> Res
     }
     let mut description = Replacement::begin_new(array.description(), Model::New)?;
     description.write(array.text().as_bytes())?;
-    for (disk, file) in disks.into_iter().enumerate() {
-        folder.place(file, array.disk(disk), stream.input().held())?;
+    for file in disks.into_iter().chain([description]) {
+        file.finish(stream.input().held())?;
     }
-    description.finish(stream.input().held())?;
-    folder.keep();
+    folder.keep()?;
     Ok(array)
 }
 

@@ -86,7 +86,8 @@ last stripe is filled up with zeros; `array` has the data's length, so that join
 what was there. Each split draws an identity from the system, so that no disk of another array,
 or of an older version of the same data, is ever taken for one of this array.
 
-A file has its name only when it is complete, and `array` comes last.
+The folder has its name only when all of it is complete and on disk. An empty folder that has the
+name gives it up, and its rights with it.
 
 Needs a code in which each data symbol stands somewhere as it is, as those of all families do:
 else nothing is written.

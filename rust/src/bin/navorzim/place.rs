@@ -18,7 +18,12 @@ pub struct OpenFolder {
 impl OpenFolder {
     pub fn open(path: &Path) -> io::Result<Arc<OpenFolder>> {
         // With the dot nothing but a folder is opened.
-        let folder = OpenFolder { named: path.to_path_buf(), handle: File::open(path.join("."))? };
+        OpenFolder::from_handle(path, File::open(path.join("."))?)
+    }
+
+    /// A folder that was opened already.
+    pub fn from_handle(named: &Path, handle: File) -> io::Result<Arc<OpenFolder>> {
+        let folder = OpenFolder { named: named.to_path_buf(), handle };
         let (open, led_to) = (folder.handle.metadata()?, fs::metadata(folder.path()));
         match led_to.is_ok_and(|led_to| (led_to.dev(), led_to.ino()) == (open.dev(), open.ino())) {
             true => Ok(Arc::new(folder)),

@@ -1,6 +1,7 @@
 //! Files that are written: the new version takes the old one's place whole or not at all.
 use crate::failure::{printable, Failure};
 use crate::files::{go_on, is_standard, trouble, Held, Purpose, BUFFER};
+use crate::folders::remove_files;
 use crate::place::{OpenFolder, Place};
 use crate::{rights, system};
 use std::ffi::OsStr;
@@ -90,7 +91,10 @@ impl Replacement {
             return Err(trouble("write", target.named(), "its folder isn't open"));
         };
         remove_abandoned(&folder.path());
-        let create = |mode| create_in(&folder.path(), mode).map_err(|error| trouble("write", target.named(), error));
+        let create = |mode| {
+            let new = |path: &Path| OpenOptions::new().write(true).create_new(true).mode(mode).open(path);
+            create_in(&folder.path(), new).map_err(|error| trouble("write", target.named(), error))
+        };
         let model = match model {
             // An empty file shows what the folder and the user's mask make of a new one.
             Model::New => {
@@ -237,13 +241,12 @@ fn fails_at_folder(named: &Path, error: io::Error) -> Failure {
     trouble("write", named, format!("its folder: {error}"))
 }
 
-/// Creates a file under a name that nobody has, in the target's folder, since a rename can't leave the file system. It is locked as
-/// long as this run lives.
-fn create_in(folder: &Path, mode: u32) -> io::Result<(PathBuf, File)> {
+/// Creates a file or a folder under a name that nobody has, in the target's folder, since a rename can't leave the file system. It is
+/// locked as long as this run lives.
+pub fn create_in(folder: &Path, new: impl Fn(&Path) -> io::Result<File>) -> io::Result<(PathBuf, File)> {
     for attempt in 0..100 {
         let temporary = folder.join(format!(".{}-{attempt}.part", unique_name()));
-        let created = OpenOptions::new().write(true).create_new(true).mode(mode).open(&temporary);
-        match created {
+        match new(&temporary) {
             Ok(file) if is_ours(&file)? => return Ok((temporary, file)),
             Ok(_) => {}
             Err(error) if error.kind() == ErrorKind::AlreadyExists => {}
@@ -264,17 +267,23 @@ fn is_ours(file: &File) -> io::Result<bool> {
 
 /// Removes what killed runs have left in a folder: nobody holds its lock any more. What can't be removed stays, since it does no
 /// harm to this run.
-fn remove_abandoned(folder: &Path) {
+pub fn remove_abandoned(folder: &Path) {
     let Ok(entries) = fs::read_dir(folder) else { return };
     for entry in entries.flatten() {
-        let regular = entry.file_type().is_ok_and(|kind| kind.is_file());
-        if !regular || !is_temporary(&entry.file_name()) {
+        let ours = entry.file_type().is_ok_and(|kind| kind.is_file() || kind.is_dir());
+        if !ours || !is_temporary(&entry.file_name()) {
             continue;
         }
-        let opened = OpenOptions::new().read(true).custom_flags(system::WITHOUT_WAITING).open(entry.path());
+        // Never through a link: a folder's files are removed in the very folder that was opened.
+        let flags = system::WITHOUT_WAITING | system::NO_LINK;
+        let opened = OpenOptions::new().read(true).custom_flags(flags).open(entry.path());
         // The lock is held until it is removed, so that nobody begins to write to it.
-        if let Some(_dead) = opened.ok().filter(|file| file.try_lock().is_ok()) {
+        let Some(dead) = opened.ok().filter(|file| file.try_lock().is_ok()) else { continue };
+        if !dead.metadata().is_ok_and(|found| found.is_dir()) {
             let _ = fs::remove_file(entry.path());
+        } else if let Ok(dead) = OpenFolder::from_handle(folder, dead) {
+            remove_files(&dead.path());
+            let _ = fs::remove_dir(entry.path());
         }
     }
 }
