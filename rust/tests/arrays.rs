@@ -211,7 +211,7 @@ fn any_code_and_any_disks_are_restored_exactly_if_they_can_be() {
         assert!(!data_left || case.folder.get("joined") == case.data, "{code:?} {lost:?}");
         if model::can_be_rebuilt(&code, &lost, &code.strips(&lost)) {
             restored += 1;
-            assert!(case.folder.done("status array").contains("can be rebuilt: reads"));
+            assert!(case.folder.fails("status array", 3).out.contains("can be rebuilt: reads"));
             case.writes("restore array", &numbers);
         } else {
             refused += 1;
@@ -411,7 +411,7 @@ fn descriptions_of_any_bytes_are_no_danger() {
         // Whatever is said, it is one of the tool's own sentences, and a fault names its line.
         let fault = ran.err.contains("can't use array/array: line ") || ran.err.contains(": line ");
         assert!(
-            ran.status == 0 || ran.err.contains("array/disk-") || ran.err.contains("by any plan") || fault,
+            [0, 3].contains(&ran.status) || ran.err.contains("array/disk-") || ran.err.contains("by any plan") || fault,
             "{context}: {ran:?}"
         );
     };
@@ -460,7 +460,8 @@ fn what_is_there_is_reported_exactly() {
     case.lose(&[0, 3]);
     case.folder.put("array/notes.txt", b"mine");
     case.folder.put("array/.navorzim-12-ab12-0.part", b"dead");
-    let (out, _) = status(0);
+    let (out, err) = status(3);
+    assert_eq!(err, "");
     let all = all.replace("disk-0  640 bytes", "disk-0  missing").replace("disk-3  640 bytes", "disk-3  missing");
     let extra = "  .navorzim-12-ab12-0.part: a temporary file: of a run at work, or of one that was killed\n  notes.txt: not a part of the array\n";
     let last = "disks 0 and 3 can be rebuilt: reads 25 symbols of each of 2 stripes, 3200 bytes, from disks 1, 2, 4, 5 and 6\n";
@@ -559,7 +560,7 @@ fn some_of_the_missing_disks_are_restored() {
     case.lose(&[0, 3]);
     let said = case.writes("restore array 3", &[3]);
     assert!(said.starts_with("restored disk 3: array/disk-3\n  read "), "{said}");
-    let out = case.folder.done("status array");
+    let out = case.folder.fails("status array", 3).out;
     assert!(out.contains("disk-0  missing") && out.contains("disk-3  640 bytes"), "{out}");
     case.writes("restore array 0", &[0]);
     // A disk of another length is no help for the others, and no hindrance if they are named.

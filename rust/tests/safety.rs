@@ -3,6 +3,7 @@ mod folder;
 mod model;
 
 use folder::{sheet, shim, Folder, TOOL};
+use model::random::Random;
 use std::fs::{self, Permissions};
 use std::os::unix::fs::{chown, symlink, MetadataExt, PermissionsExt};
 use std::os::unix::process::ExitStatusExt;
@@ -470,4 +471,61 @@ fn an_array_has_the_rights_of_the_empty_folder_that_it_replaces() {
     let ran = tool.args("split ../code --symbol 1 ../data -o .".split(' ')).current_dir(folder.0.join("other"));
     let ran = String::from_utf8(ran.output().expect("it runs").stderr).expect("text");
     assert!(ran.contains("can't use .: the folder one is in isn't replaced: name a new one in it"), "{ran}");
+}
+
+#[test]
+fn a_disk_that_is_half_dead_is_done_without() {
+    let folder = Folder::new();
+    folder.put("code", &model::family("liberation", 5, 5).expect("listed"));
+    let data = Random::new(8).bytes(25 * 512 * 100);
+    folder.put("data", &data);
+    folder.done("split code --symbol 512 data -o array");
+    let half_dead = |line: &str| folder.run_with(line, "READ_FAILS", "array/disk-1");
+    let ran = half_dead("status array");
+    assert!(ran.status == 0 && ran.out.ends_with("all 7 disks are there\n"), "{ran:?}");
+    let ran = half_dead("status array --read");
+    let said = "disk-1  can't be read at byte 99840: Input/output error (os error 5); --without 1 does without it\n";
+    assert!(ran.status == 3 && ran.out.contains(said), "{ran:?}");
+    assert!(ran.out.contains("\ndisk 1 can be rebuilt: reads "), "{ran:?}");
+    assert!(folder.done("status array --read").ends_with("all 7 disks are there, and every byte can be read\n"));
+    // Joined and restored without it, though it is there.
+    let ran = half_dead("join array -o joined");
+    let said = "navorzim: can't read array/disk-1: Input/output error (os error 5), in the ";
+    assert!(ran.status == 2 && ran.err.starts_with(said), "{ran:?}");
+    assert!(ran.err.ends_with("; --without 1 does without it\n") && !folder.has("joined"), "{ran:?}");
+    let ran = half_dead("join array --without 1 -o joined");
+    assert!(ran.status == 0 && folder.get("joined") == data, "{ran:?}");
+    let (disk_0, disk_1) = (folder.get("array/disk-0"), folder.get("array/disk-1"));
+    folder.remove("array/disk-0");
+    let ran = half_dead("restore array");
+    assert!(ran.status == 2 && ran.err.ends_with("; --without 1 does without it\n"), "{ran:?}");
+    let ran = half_dead("status array --without 1");
+    assert!(ran.status == 3 && ran.out.contains("disk-1  there, and done without\n"), "{ran:?}");
+    assert!(ran.out.contains("\ndisks 0 and 1 can be rebuilt: reads "), "{ran:?}");
+    let ran = half_dead("restore array --without 1");
+    assert!(ran.status == 0 && ran.out.starts_with("restored disk 0: array/disk-0\n"), "{ran:?}");
+    assert!(folder.get("array/disk-0") == disk_0 && folder.get("array/disk-1") == disk_1);
+    let said = folder.misused("restore array 1 --without 1");
+    assert!(said.contains("can't write array/disk-1: it is there; move it away"), "{said}");
+    // Two parities bear no third, and no array has an eighth disk.
+    folder.remove("array/disk-0");
+    folder.fails("join array --without 1,2 -o other", 1);
+    assert!(folder.refused("status array --without 7", 7, 0).contains("it has 0 to 6"));
+}
+
+#[test]
+fn a_monitor_goes_by_the_status() {
+    let folder = morning_and_noon();
+    folder.fails("status noon", 0);
+    folder.remove("noon/disk-1");
+    let ran = folder.fails("status noon", 3);
+    assert_eq!(ran.err, "");
+    folder.remove("noon/disk-2");
+    folder.fails("status noon", 3);
+    folder.remove("noon/disk-3");
+    folder.fails("status noon", 1);
+    // The description alone is missing, and can be written anew.
+    folder.remove("morning/array");
+    folder.fails("status morning", 3);
+    folder.fails("status nowhere", 2);
 }

@@ -1397,6 +1397,8 @@ fn the_readme_is_true() {
     let mut lines = 0;
     for line in readme.lines().filter_map(|line| line.strip_prefix("    ")) {
         match line.split_once(' ') {
+            // A disk is lost by then.
+            Some(("navorzim", line)) if line.starts_with("status ") => drop(folder.fails(line, 3)),
             Some(("navorzim", line)) => drop(folder.done(line)),
             Some(("rm", disk)) => folder.remove(disk),
             _ => continue,

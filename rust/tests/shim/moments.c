@@ -1,9 +1,12 @@
 /* Preloaded before the C library, for tests of moments that can't be hit from outside.
  * AT_FLUSH: a command that is run when a file is brought to the disk, which is between the last read and the rename.
- * FOLDER_FAILS: bringing a folder to the disk fails. */
+ * FOLDER_FAILS: bringing a folder to the disk fails.
+ * READ_FAILS: the byte 100,000 of files whose path has this in it can't be read. */
 #define _GNU_SOURCE
 #include <errno.h>
+#include <stdio.h>
 #include <stdlib.h>
+#include <string.h>
 #include <sys/stat.h>
 #include <sys/syscall.h>
 #include <unistd.h>
@@ -22,4 +25,21 @@ int fsync(int fd)
             abort();
     }
     return (int)syscall(SYS_fsync, fd);
+}
+
+ssize_t pread64(int fd, void *bytes, size_t count, off64_t from)
+{
+    const char *name = getenv("READ_FAILS");
+    char link[64], path[4096];
+    ssize_t length;
+    snprintf(link, sizeof link, "/proc/self/fd/%d", fd);
+    length = name ? readlink(link, path, sizeof path - 1) : -1;
+    if (length >= 0) {
+        path[length] = 0;
+        if (strstr(path, name) && from <= 100000 && from + (off64_t)count > 100000) {
+            errno = EIO;
+            return -1;
+        }
+    }
+    return syscall(SYS_pread64, fd, bytes, count, from);
 }

@@ -10,7 +10,7 @@ use std::os::unix::ffi::OsStrExt;
 use std::path::{Path, PathBuf};
 
 /// The options that take no value.
-const FLAGS: &[&str] = &["--dry-run", "--in-place", "--links"];
+const FLAGS: &[&str] = &["--dry-run", "--in-place", "--links", "--read"];
 
 /// What follows a command's name, sorted. A question removes what it answers, so that `finish` finds what nobody asked for.
 #[derive(Debug)]
@@ -174,6 +174,11 @@ impl Arguments {
     /// Whether a flag is given.
     pub fn flag(&mut self, name: &str) -> bool {
         self.option(name).is_some()
+    }
+
+    /// The disks to do without although they are there.
+    pub fn without(&mut self) -> Result<Disks, Failure> {
+        Ok(self.disks_option("--without")?.unwrap_or(Disks::NONE))
     }
 
     /// Whether an array's files may be links.

@@ -8,7 +8,7 @@ use crate::failure::{printable, Failure};
 use crate::files::{Held, Purpose};
 use crate::folders::NewFolder;
 use crate::gather::Blocks;
-use crate::inventory::{Found, Inventory};
+use crate::inventory::{way_out, Found, Inventory};
 use crate::lists::rising;
 use crate::output::Output;
 use crate::planning::{checked, checked_plan, no_plan, plan_anew};
@@ -95,34 +95,51 @@ pub fn caution(array: &Array) -> String {
 }
 
 pub fn status(arguments: &mut Arguments) -> Result<String, Failure> {
-    let (folder, links) = (arguments.file("ARRAY")?, arguments.links());
+    let (folder, links, without) = (arguments.file("ARRAY")?, arguments.links(), arguments.without()?);
+    let read = arguments.flag("--read");
     arguments.finish()?;
     let (array, description) = Array::open(&folder, links)?;
-    let inventory = Inventory::take(&array)?;
-    let mut text = format!("{}: {}\n  {}\n", printable(&folder), array.code.title(), contents(&array));
-    text.push_str(&caution(&array));
-    for disk in 0..array.code.disks {
-        text.push_str(&disk_line(&array, &inventory, disk));
+    let mut inventory = Inventory::take(&array, &without)?;
+    if read {
+        inventory.read_all(&array)?;
     }
-    if description.is_none() {
+    let mut text = format!("{}: {}\n  {}\n", printable(&folder), array.code.title(), contents(&array));
+    text.push_str(&listing(&array, &inventory, description.is_some()));
+    let lost = inventory.lost();
+    if lost.count() == 0 {
+        let read = if read { ", and every byte can be read" } else { "" };
+        text.push_str(&format!("all {} are there{read}\n", counted(array.code.disks, "disk")));
+        return if description.is_some() { Ok(text) } else { Err(Failure::Missing { text }) };
+    }
+    judged(&array, &inventory, &lost, text)
+}
+
+/// What is there and what isn't, a line each.
+fn listing(array: &Array, inventory: &Inventory, described: bool) -> String {
+    let mut text = caution(array);
+    for disk in 0..array.code.disks {
+        text.push_str(&disk_line(array, inventory, disk));
+    }
+    if !described {
         text.push_str("  array: missing; the labels have it, and restore writes it anew\n");
     }
     for extra in inventory.extra_words() {
         text.push_str(&format!("  {extra}\n"));
     }
-    let lost = inventory.lost();
-    if lost.count() == 0 {
-        return Ok(format!("{text}all {} are there\n", counted(array.code.disks, "disk")));
-    }
-    let plan = match plan_anew(&array.code, &lost, &Wanted::All)? {
+    text
+}
+
+/// Whether lost disks can be rebuilt: how `status` ends where there are some.
+fn judged(array: &Array, inventory: &Inventory, lost: &Disks, mut text: String) -> Result<String, Failure> {
+    let plan = match plan_anew(&array.code, lost, &Wanted::All)? {
         Ok(plan) => plan,
         Err(stuck) => return Err(no_plan(text + &stuck.text(&array.code), &array.code, &stuck)),
     };
-    checked(&array.code, &lost, &plan)?;
-    let reading = reading(&array, &plan.sources(&array.code, &lost));
+    checked(&array.code, lost, &plan)?;
+    let reading = reading(array, &plan.sources(&array.code, lost));
     text.push_str(&format!("{} can be rebuilt: reads {reading}\n", lost.words()));
-    match (0..array.code.disks).find_map(|disk| Some((disk, inventory.fault(&array, disk)?))) {
-        None => Ok(text),
+    match (0..array.code.disks).find_map(|disk| Some((disk, inventory.fault(array, disk)?))) {
+        None => Err(Failure::Missing { text }),
         Some((disk, fault)) => {
             let what = format!("{}: {fault}; move it away to have it restored", printable(array.disk(disk).named()));
             Err(Failure::InTheWay { text, what })
@@ -136,6 +153,8 @@ fn disk_line(array: &Array, inventory: &Inventory, disk: usize) -> String {
     let found = match &inventory.disks[disk] {
         Found::There => counted(array.disk_length(), "byte"),
         Found::Missing => "missing".to_string(),
+        Found::SetAside => "there, and done without".to_string(),
+        Found::Unreadable(place, why) => format!("can't be read at byte {place}: {why}; {}", way_out(disk)),
         Found::Length(_) | Found::SameAs(_) | Found::Stranger(_) | Found::Unfit(_) => {
             inventory.fault(array, disk).unwrap_or_default()
         }
@@ -145,9 +164,10 @@ fn disk_line(array: &Array, inventory: &Inventory, disk: usize) -> String {
 
 pub fn join(arguments: &mut Arguments) -> Result<String, Failure> {
     let (folder, output, links) = (arguments.file("ARRAY")?, arguments.output()?, arguments.links());
+    let without = arguments.without()?;
     arguments.finish()?;
     let (array, description) = Array::open(&folder, links)?;
-    let inventory = Inventory::take(&array)?;
+    let inventory = Inventory::take(&array, &without)?;
     array.keep_apart(&output)?;
     let lost = inventory.lost();
     let homes = array.code.homes(&lost)?;

@@ -185,7 +185,10 @@ impl Demo {
     /// Runs a command that must succeed, and says so in its own words.
     fn command(&mut self, line: &str) -> Result<(), Failure> {
         self.note(&format!("$ navorzim {line}"));
-        let answer = self.run(line)?;
+        let answer = match self.run(line) {
+            Err(Failure::Missing { text }) => text,
+            answer => answer?,
+        };
         for line in self.shortened(&answer).lines() {
             self.note(&format!("    {line}"));
         }

@@ -10,6 +10,8 @@ pub enum Failure {
     Refused(Refused),
     /// The planner answered a pattern: `text` is the answer, for standard output, and `what` a sentence on what can't be rebuilt.
     NoPlan { text: String, what: String, code: PathBuf },
+    /// Disks are missing and can be rebuilt: `text` is the answer, and nothing is to be complained of.
+    Missing { text: String },
     /// Something else stands where a disk's file should be: `text` is the answer, for standard output, and `what` says it.
     InTheWay { text: String, what: String },
     /// The library said no, and there is a picture of why: `text`, for standard output.
@@ -50,12 +52,14 @@ impl Failure {
         Failure::Refused(Refused { refusal, detail, file })
     }
 
-    /// 1 for a refusal and for disks that can't be rebuilt, 2 for everything that never reached the library.
+    /// 1 for a refusal and for disks that can't be rebuilt, 2 for everything that never reached the library, 3 for disks that are
+    /// missing and can be rebuilt.
     pub fn status(&self) -> u8 {
         match self {
             Failure::Refused(_) | Failure::Drawn { .. } | Failure::NoPlan { .. } => 1,
             Failure::InTheWay { .. } | Failure::Unexpected { .. } => 1,
             Failure::Misuse { .. } | Failure::File(_) => 2,
+            Failure::Missing { .. } => 3,
         }
     }
 }
@@ -77,6 +81,7 @@ impl fmt::Display for Refused {
 impl fmt::Display for Failure {
     fn fmt(&self, f: &mut fmt::Formatter<'_>) -> fmt::Result {
         match self {
+            Failure::Missing { text } => write!(f, "{text}"),
             Failure::Refused(refused) | Failure::Drawn { refused, .. } => write!(f, "{refused}"),
             Failure::NoPlan { what, code, .. } => write!(f, "{what} ({})", printable(code)),
             Failure::Misuse { what, command: "" } => {

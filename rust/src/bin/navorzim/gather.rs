@@ -5,6 +5,7 @@
 use crate::array::Array;
 use crate::failure::Failure;
 use crate::files::{trouble, Held, Purpose};
+use crate::inventory::way_out;
 use std::io::ErrorKind;
 use std::ops::Range;
 use std::os::unix::fs::FileExt;
@@ -135,7 +136,11 @@ impl Survivor {
     fn read(&self, bytes: &mut [u8], from: u64) -> Result<(), Failure> {
         self.held.file.read_exact_at(bytes, from).map_err(|error| match error.kind() {
             ErrorKind::UnexpectedEof => trouble("use", self.held.named(), "it changed while it was read"),
-            _ => trouble("read", self.held.named(), error),
+            _ => {
+                let length = bytes.len();
+                let why = format!("{error}, in the {length} bytes from {from} on; {}", way_out(self.disk));
+                trouble("read", self.held.named(), why)
+            }
         })
     }
 }

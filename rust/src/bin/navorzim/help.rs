@@ -42,7 +42,7 @@ leaves no temporary file; the .navorzim-*.part of a killed run is removed by the
 that writes to the folder.
 
 Exit status: 0 done, 1 refused or disks that can't be rebuilt, 2 misuse or a file that
-can't be used. A refusal is its number, its place and a sentence, on standard error.
+can't be used, 3 from status where disks are missing and can be rebuilt. A refusal is its number, its place and a sentence, on standard error.
 ";
 
 pub const DEMO: &str = "\
@@ -98,23 +98,25 @@ example: navorzim split code.sheet --symbol 64 register.txt -o array/
 ";
 
 pub const STATUS: &str = "\
-usage: navorzim status ARRAY [--links]
+usage: navorzim status ARRAY [--read] [--without DISKS] [--links]
 
 Says of each disk of an array whether its file is there and has the right length and label, what
 else is in the folder, and whether the disks that aren't there can be rebuilt, and what that
 reads. Nothing is written, and of a disk's file only the label is read.
 
+  --read       reads every byte of every disk, and says which disk can't be read, and where
+  --without DISKS  takes these disks as lost, though they are there
   --links      takes links in the disks' places, for arrays whose disks lie on several media;
                without it a link is no disk
 
-Exit status: 0 if all disks are there, or those that aren't can be restored; 1 if they can't be
-rebuilt, or something else stands in a disk's place.
+Exit status: 0 if all disks are there and sound to look at, 3 if some are missing and can be
+rebuilt, 1 if they can't be rebuilt, or something else stands in a disk's place.
 
 example: navorzim status array/
 ";
 
 pub const RESTORE: &str = "\
-usage: navorzim restore ARRAY [DISKS] [--plan PLAN] [--dry-run] [--links]
+usage: navorzim restore ARRAY [DISKS] [--plan PLAN] [--dry-run] [--without DISKS] [--links]
 
 Rebuilds the missing disks of an array, or of those only DISKS: one like 3, or several like 0,3.
 Plans anew from the code in `array`, has the plan checked, for every block of stripes again,
@@ -130,6 +132,8 @@ Where `array` is lost, the labels have it, if those that are there agree: it is 
   --plan PLAN  goes by this plan, which is checked like any other. It must be for all disks that
                can't be read, and bring the whole disks back
   --dry-run    says what would be read and written, and does nothing
+  --without DISKS  takes these disks as lost, though they are there: they are neither read nor
+               replaced. For disks that can't be read to their end
   --links      takes links in the disks' places
 
 Refused: the code sheet (1 to 6), 7 (no such disk), the plan (7 and 11 to 25). If no plan can
@@ -140,11 +144,11 @@ example: navorzim restore array/ --dry-run
 ";
 
 pub const JOIN: &str = "\
-usage: navorzim join ARRAY -o DATA [--links]
+usage: navorzim join ARRAY -o DATA [--without DISKS] [--links]
 
 Makes the file of an array again, exactly as long as it was. Where disks are missing whose data
-can be rebuilt from the others, that is done on the way; the array stays as it is. --links takes
-links in the disks' places.
+can be rebuilt from the others, that is done on the way; the array stays as it is. --without
+takes disks as lost that are there but can't be read; --links takes links in the disks' places.
 
 If no plan can bring the data back, says so, prints the pattern that shows it, writes no file
 and ends with status 1.

@@ -2,14 +2,15 @@
 use crate::array::Array;
 use crate::disks::Disks;
 use crate::failure::{printable, Failure};
-use crate::files::{kind, open_regular, trouble, Links, Purpose};
+use crate::files::{go_on, kind, open_regular, trouble, Links, Purpose, BUFFER};
 use crate::label::Label;
 use crate::replacement::is_temporary;
+use navorzim::Refusal;
 use std::collections::HashMap;
 use std::ffi::OsString;
 use std::fs::{self, File, Metadata};
-use std::io::ErrorKind;
-use std::os::unix::fs::MetadataExt;
+use std::io::{self, ErrorKind};
+use std::os::unix::fs::{FileExt, MetadataExt};
 use std::path::Path;
 
 /// How a disk's file was found.
@@ -27,6 +28,10 @@ pub enum Found {
     Stranger(String),
     /// what is no file, or can't be looked at
     Unfit(String),
+    /// a file that can't be read: where, and why
+    Unreadable(u64, String),
+    /// there, but to be done without
+    SetAside,
 }
 
 /// A folder that was looked through.
@@ -38,10 +43,16 @@ pub struct Inventory {
 }
 
 impl Inventory {
-    pub fn take(array: &Array) -> Result<Inventory, Failure> {
+    /// Looks through a folder. Of the disks that are to be done without, it is seen only whether they are there.
+    pub fn take(array: &Array, without: &Disks) -> Result<Inventory, Failure> {
+        if without.iter().any(|disk| disk >= array.code.disks as u64) {
+            return Err(array.code.explain(Refusal::NoSuchDisk, without, None, 0));
+        }
         let (mut disks, mut files) = (Vec::new(), HashMap::new());
         for disk in 0..array.code.disks {
             let (found, file) = match look(array, disk) {
+                Err(Found::Missing) => (Found::Missing, (0, 0)),
+                _ if without.has(disk) => (Found::SetAside, (0, 0)),
                 Err(unfit) => (unfit, (0, 0)),
                 // Links of both kinds are seen through.
                 Ok(found) => match files.get(&(found.dev(), found.ino())) {
@@ -55,6 +66,19 @@ impl Inventory {
             disks.push(found);
         }
         Ok(Inventory { disks, extra: extra(array)? })
+    }
+
+    /// Reads every byte of every disk that is there, and notes those that can't be read.
+    pub fn read_all(&mut self, array: &Array) -> Result<(), Failure> {
+        for disk in 0..self.disks.len() {
+            if self.disks[disk] == Found::There {
+                let file = open_regular(&array.disk(disk), Purpose::Read, array.links)?;
+                if let Some((place, why)) = first_unreadable(&file, array.disk(disk).named())? {
+                    self.disks[disk] = Found::Unreadable(place, why.to_string());
+                }
+            }
+        }
+        Ok(())
     }
 
     /// The disks that can't be read.
@@ -74,7 +98,7 @@ impl Inventory {
     /// What is there in a disk's place that isn't the disk; none if the disk is there, or nothing is.
     pub fn fault(&self, array: &Array, disk: usize) -> Option<String> {
         match self.disks.get(disk)? {
-            Found::There | Found::Missing => None,
+            Found::There | Found::Missing | Found::SetAside | Found::Unreadable(..) => None,
             Found::Length(length) => Some(format!("it has {length} bytes, not {}", array.file_length())),
             Found::SameAs(before) => Some(format!("it is the same file as {}", array.name(*before))),
             Found::Stranger(why) | Found::Unfit(why) => Some(why.clone()),
@@ -89,6 +113,29 @@ impl Inventory {
         };
         self.extra.iter().map(|name| format!("{}: {}", printable(Path::new(name)), words(name))).collect()
     }
+}
+
+/// What can be done about a disk that is there and can't be read.
+pub fn way_out(disk: usize) -> String {
+    format!("--without {disk} does without it")
+}
+
+/// Reads a file to its end; answers the first place that can't be read, to a sector, and why.
+fn first_unreadable(file: &File, named: &Path) -> Result<Option<(u64, io::Error)>, Failure> {
+    const SECTOR: usize = 512;
+    let length = file.metadata().map_err(|error| trouble("read", named, error))?.len();
+    let (mut piece, mut place, mut step) = (vec![0; BUFFER], 0, BUFFER);
+    while place < length {
+        go_on("read", named)?;
+        match file.read_at(&mut piece[..step], place) {
+            Ok(0) => return Err(trouble("use", named, "it changed while it was read")),
+            Ok(read) => place += read as u64,
+            Err(error) if error.kind() == ErrorKind::Interrupted => {}
+            Err(error) if step == SECTOR => return Ok(Some((place, error))),
+            Err(_) => step = SECTOR,
+        }
+    }
+    Ok(None)
 }
 
 /// The regular file in a disk's place.
@@ -121,7 +168,8 @@ fn known(array: &Array, disk: usize, found: &Metadata) -> Result<Found, Failure>
         return Ok(by_length);
     }
     let Ok(file) = open_regular(&array.disk(disk), Purpose::Read, array.links) else {
-        return Ok(Found::Unfit("it can't be opened for reading".to_string()));
+        let why = format!("it can't be opened for reading; {}", way_out(disk));
+        return Ok(Found::Unfit(why));
     };
     match array.is_labelled(&file, disk) {
         true => Ok(by_length),

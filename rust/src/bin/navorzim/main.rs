@@ -1,6 +1,7 @@
 //! `navorzim`: code sheets, plans and stripes in files, over the proved library.
 //!
-//! Exit status: 0 done, 1 refused or disks that can't be rebuilt, 2 misuse or a file that can't be used.
+//! Exit status: 0 done, 1 refused or disks that can't be rebuilt, 2 misuse or a file that can't be used, 3 from `status` where disks are
+//! missing and can be rebuilt.
 #![deny(unsafe_code)]
 
 mod arguments;
@@ -117,6 +118,7 @@ fn print(text: &str, aside: bool, status: u8) -> u8 {
 
 fn complain(failure: &Failure, aside: bool) -> u8 {
     let status = match failure {
+        Failure::Missing { text } => return print(text, aside, failure.status()),
         Failure::NoPlan { text, .. }
         | Failure::InTheWay { text, .. }
         | Failure::Drawn { text, .. }

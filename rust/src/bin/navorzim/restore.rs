@@ -27,10 +27,10 @@ pub fn run(arguments: &mut Arguments) -> Result<String, Failure> {
     let asked = arguments.disks_if_any("DISKS")?;
     let given = arguments.source_option("--plan")?;
     let dry_run = arguments.flag("--dry-run");
-    let links = arguments.links();
+    let (links, without) = (arguments.links(), arguments.without()?);
     arguments.finish()?;
     let (array, description) = Array::open(&folder, links)?;
-    let inventory = Inventory::take(&array)?;
+    let inventory = Inventory::take(&array, &without)?;
     let targets = targets(&array, &inventory, asked)?;
     let mut text = match targets.count() {
         0 => format!("nothing to restore: all {} are there\n", counted(array.code.disks, "disk")),
