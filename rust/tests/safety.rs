@@ -4,12 +4,14 @@ mod model;
 
 use folder::{sheet, shim, Folder, TOOL};
 use model::random::Random;
-use std::fs::{self, Permissions};
+use std::fs::{self, File, Permissions};
+use std::io::Write;
 use std::os::unix::fs::{chown, symlink, MetadataExt, PermissionsExt};
 use std::os::unix::process::ExitStatusExt;
-use std::process::Command;
+use std::process::{Child, Command, Stdio};
 use std::sync::atomic::{AtomicBool, Ordering};
 use std::thread;
+use std::time::{Duration, Instant};
 
 const NOBODY: u32 = 65_534;
 
@@ -528,4 +530,181 @@ fn a_monitor_goes_by_the_status() {
     folder.remove("morning/array");
     folder.fails("status morning", 3);
     folder.fails("status nowhere", 2);
+}
+
+#[test]
+fn who_has_locked_a_file_is_named_and_can_be_waited_for() {
+    let folder = morning_and_noon();
+    folder.remove("noon/disk-0");
+    let disk_5 = || File::open(folder.0.join("noon/disk-5")).expect("opened");
+    let holder = disk_5();
+    holder.lock().expect("locked");
+    let said = folder.misused("restore noon");
+    assert!(said.contains("can't read noon/disk-5: another program has locked it"), "{said}");
+    assert!(said.ends_with("; --wait SECONDS waits for that\n"), "{said}");
+    let own = format!(": process {} (", std::process::id());
+    match fs::read_to_string("/proc/locks").is_ok_and(|locks| !locks.is_empty()) {
+        true => assert!(said.contains(&own), "{said}"),
+        false => println!("not tried: the system doesn't say who holds locks"),
+    }
+    let said = folder.misused("restore noon --wait 1");
+    assert!(said.ends_with(", and didn't let go of it in 1 s\n"), "{said}");
+    assert!(folder.misused("restore noon --wait soon").contains("--wait must be a decimal number"));
+    // Whoever lets go in time is waited for, also where another file has the name by then.
+    thread::scope(|scope| {
+        scope.spawn(|| {
+            thread::sleep(Duration::from_millis(300));
+            let bytes = folder.get("noon/disk-5");
+            folder.put("other", &bytes);
+            fs::rename(folder.0.join("other"), folder.0.join("noon/disk-5")).expect("renamed");
+            drop(holder);
+        });
+        folder.done("restore noon --wait 60");
+    });
+    folder.done("join noon -o joined");
+    assert_eq!(folder.get("joined"), folder.get("noon.txt"));
+}
+
+#[test]
+fn a_quota_and_a_quitting_user_leave_no_temporary_file() {
+    let folder = Folder::square();
+    folder.put("data", &vec![7; 1 << 20]);
+    let start = |limit: &str, source: &str| {
+        let line = format!("ulimit -c 0; {limit}; exec '{TOOL}' encode code --symbol 64 {source} -o out");
+        let mut shell = Command::new("sh");
+        let shell = shell.args(["-c", &line]).current_dir(&folder.0).stdin(Stdio::piped());
+        shell.stdout(Stdio::null()).stderr(Stdio::null()).spawn().expect("it runs")
+    };
+    let ended = start("ulimit -f 100", "data").wait().expect("it ends");
+    assert_eq!((ended.signal(), folder.temporaries(), folder.has("out")), (Some(25), 0, false));
+    let mut child = start("true", "-");
+    let mut input = child.stdin.take().expect("a pipe");
+    input.write_all(&folder.get("data")).expect("taken");
+    while folder.temporaries() == 0 {
+        thread::sleep(Duration::from_millis(5));
+    }
+    send(3, &child);
+    let ended = child.wait().expect("it ends");
+    assert_eq!((ended.signal(), folder.temporaries(), folder.has("out")), (Some(3), 0, false));
+}
+
+/// Sends a signal at once.
+fn send(signal: i32, child: &Child) {
+    extern "C" {
+        fn kill(process: i32, signal: i32) -> i32;
+    }
+    // Sound: two numbers are handed over. The child isn't waited for yet, so that its number is its own.
+    unsafe { kill(child.id() as i32, signal) };
+}
+
+/// What a run that is ended leaves, for each of the commands that write: what was there, or what must be there.
+struct Ended {
+    line: &'static str,
+    prepare: fn(&Folder),
+    /// whether all that there is under the names that are written is as it was, or as it must be
+    is_whole: fn(&Folder) -> bool,
+}
+
+fn old_or(folder: &Folder, name: &str, old: &str, new: &str) -> bool {
+    [old, new].iter().any(|whole| folder.get(name) == folder.get(whole))
+}
+
+const ENDED: [Ended; 5] = [
+    Ended {
+        line: "split code --symbol 512 data -o made",
+        prepare: |folder| drop(fs::remove_dir_all(folder.0.join("made"))),
+        is_whole: |folder| !folder.has("made") || folder.run("status made").status == 0,
+    },
+    Ended {
+        line: "restore array",
+        prepare: |folder| {
+            [0, 3].iter().for_each(|disk| drop(fs::remove_file(folder.0.join(format!("array/disk-{disk}")))))
+        },
+        is_whole: |folder| {
+            let whole = |name: &str| {
+                !folder.has(&format!("array/{name}")) || old_or(folder, &format!("array/{name}"), name, name)
+            };
+            whole("disk-0") && whole("disk-3")
+        },
+    },
+    Ended {
+        line: "join whole -o out",
+        prepare: |folder| folder.put("out", &folder.get("old")),
+        is_whole: |folder| old_or(folder, "out", "old", "data"),
+    },
+    Ended {
+        line: "rebuild code 0,3 plan --symbol 512 out --in-place",
+        prepare: |folder| folder.put("out", &folder.get("ruined")),
+        is_whole: |folder| old_or(folder, "out", "ruined", "stripes"),
+    },
+    Ended {
+        line: "encode code --symbol 512 data -o out",
+        prepare: |folder| folder.put("out", &folder.get("old")),
+        is_whole: |folder| old_or(folder, "out", "old", "stripes"),
+    },
+];
+
+/// Everything that the commands in `ENDED` need.
+fn workshop() -> Folder {
+    let folder = Folder::new();
+    folder.put("code", &model::family("liberation", 5, 5).expect("listed"));
+    folder.put("data", &Random::new(9).bytes(25 * 512 * 160));
+    folder.put("old", b"as it was");
+    folder.done("split code --symbol 512 data -o array");
+    folder.done("split code --symbol 512 data -o whole");
+    ["disk-0", "disk-3"].iter().for_each(|name| folder.put(name, &folder.get(&format!("array/{name}"))));
+    folder.done("encode code --symbol 512 data -o stripes");
+    folder.done("plan code 0,3 -o plan");
+    let mut ruined = folder.get("stripes");
+    for stripe in ruined.chunks_mut(35 * 512) {
+        stripe[..5 * 512].fill(b'#');
+        stripe[15 * 512..20 * 512].fill(b'#');
+    }
+    folder.put("ruined", &ruined);
+    folder
+}
+
+/// Removes what killed runs have left, which is nothing else: the names are those of temporary files.
+fn remove_temporaries(folder: &Folder) {
+    for path in folder.contents().into_keys().filter(|path| path.extension().is_some_and(|end| end == "part")) {
+        let _ = fs::remove_file(&path).or_else(|_| fs::remove_dir_all(&path));
+    }
+}
+
+#[test]
+fn three_hundred_runs_that_are_ended_leave_no_half_file() {
+    const KILL: i32 = 9;
+    let (folder, mut random) = (workshop(), Random::new(300));
+    for Ended { line, prepare, is_whole } in ENDED {
+        let start = || {
+            let mut tool = Command::new(TOOL);
+            let tool = tool.args(line.split(' ')).current_dir(&folder.0).stdout(Stdio::null()).stderr(Stdio::null());
+            tool.spawn().expect("it runs")
+        };
+        prepare(&folder);
+        let began = Instant::now();
+        assert!(start().wait().expect("it ends").success(), "{line}");
+        let (usual, mut ended) = (began.elapsed(), 0);
+        for round in 0..60 {
+            prepare(&folder);
+            let signal = [KILL, 15, 2][round % 3];
+            let mut child = start();
+            thread::sleep(usual.mul_f64(random.below(1100) as f64 / 1000.0));
+            send(signal, &child);
+            let status = child.wait().expect("it ends");
+            assert!(status.success() || status.signal() == Some(signal), "{line}: {status}");
+            ended += usize::from(!status.success());
+            assert!(is_whole(&folder), "{line}, signal {signal}: a half file");
+            match signal {
+                KILL => remove_temporaries(&folder),
+                _ => assert_eq!(folder.temporaries(), 0, "{line}, signal {signal}: a temporary file"),
+            }
+        }
+        println!("{line}: {ended} of 60 ended in time");
+        assert!(ended >= 5, "{line}: {ended} of 60 ended in time");
+        prepare(&folder);
+        folder.done(line);
+        assert_eq!(folder.temporaries(), 0, "{line}");
+    }
+    assert!(folder.run("status whole").status == 0 && folder.get("old") == b"as it was");
 }

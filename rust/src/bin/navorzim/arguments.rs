@@ -3,6 +3,7 @@ use crate::disks::Disks;
 use crate::failure::Failure;
 use crate::files::{is_standard, Links};
 use crate::lists::decimal;
+use crate::locks;
 use crate::wanted::Request;
 use std::collections::VecDeque;
 use std::ffi::{OsStr, OsString};
@@ -174,6 +175,14 @@ impl Arguments {
     /// Whether a flag is given.
     pub fn flag(&mut self, name: &str) -> bool {
         self.option(name).is_some()
+    }
+
+    /// Has this run wait for locks, if that is asked for.
+    pub fn wait(&mut self) -> Result<(), Failure> {
+        if let Some(seconds) = self.number_option("--wait")? {
+            locks::wait_for(seconds);
+        }
+        Ok(())
     }
 
     /// The disks to do without although they are there.

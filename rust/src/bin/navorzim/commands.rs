@@ -25,23 +25,33 @@ pub struct Command {
 /// All commands, in the order in which help lists them.
 pub const COMMANDS: &[Command] = &[
     Command { name: "demo", options: &["--keep"], help: help::DEMO, run: demo::run },
-    Command { name: "family", options: &["-o"], help: help::FAMILY, run: family },
-    Command { name: "split", options: &["-o", "--symbol"], help: help::SPLIT, run: arrays::split },
-    Command { name: "status", options: &["--links", "--read", "--without"], help: help::STATUS, run: arrays::status },
+    Command { name: "family", options: &["-o", "--wait"], help: help::FAMILY, run: family },
+    Command { name: "split", options: &["-o", "--symbol", "--wait"], help: help::SPLIT, run: arrays::split },
+    Command {
+        name: "status",
+        options: &["--links", "--read", "--wait", "--without"],
+        help: help::STATUS,
+        run: arrays::status,
+    },
     Command {
         name: "restore",
-        options: &["--dry-run", "--links", "--plan", "--without"],
+        options: &["--dry-run", "--links", "--plan", "--wait", "--without"],
         help: help::RESTORE,
         run: restore::run,
     },
-    Command { name: "join", options: &["--links", "--without", "-o"], help: help::JOIN, run: arrays::join },
-    Command { name: "encode", options: &["-o", "--length", "--symbol"], help: help::ENCODE, run: encode },
-    Command { name: "decode", options: &["-o", "--length", "--symbol"], help: help::DECODE, run: decode },
-    Command { name: "plan", options: &["-o", "--want"], help: help::PLAN, run: plan },
+    Command { name: "join", options: &["-o", "--links", "--wait", "--without"], help: help::JOIN, run: arrays::join },
+    Command { name: "encode", options: &["-o", "--length", "--symbol", "--wait"], help: help::ENCODE, run: encode },
+    Command { name: "decode", options: &["-o", "--length", "--symbol", "--wait"], help: help::DECODE, run: decode },
+    Command { name: "plan", options: &["-o", "--wait", "--want"], help: help::PLAN, run: plan },
     Command { name: "check", options: &[], help: help::CHECK, run: check },
-    Command { name: "rebuild", options: &["-o", "--in-place", "--symbol"], help: help::REBUILD, run: rebuild },
-    Command { name: "strip", options: &["-o", "--symbol"], help: help::STRIP, run: strip },
-    Command { name: "show", options: &["--disk", "--plan", "--svg", "--want"], help: help::SHOW, run: show },
+    Command {
+        name: "rebuild",
+        options: &["-o", "--in-place", "--symbol", "--wait"],
+        help: help::REBUILD,
+        run: rebuild,
+    },
+    Command { name: "strip", options: &["-o", "--symbol", "--wait"], help: help::STRIP, run: strip },
+    Command { name: "show", options: &["--disk", "--plan", "--svg", "--wait", "--want"], help: help::SHOW, run: show },
 ];
 
 /// The command with a name.
@@ -71,7 +81,7 @@ pub fn run(command: &'static Command, given: impl IntoIterator<Item = OsString>)
         // Whoever asks for help gets it, whatever else can't be understood.
         Err(_) if asked => Ok(command.help.to_string()).into(),
         Ok(mut arguments) => {
-            let answer = (command.run)(&mut arguments);
+            let answer = arguments.wait().and_then(|()| (command.run)(&mut arguments));
             Ran { answer, aside: arguments.takes_standard_output() }
         }
         Err(failure) => Err(failure).into(),

@@ -1,8 +1,8 @@
 //! Files that are read: sheets with a limit, stripes piece by piece, and how it is noticed that somebody else wrote one meanwhile.
 use crate::failure::{printable, Failure};
 use crate::place::Place;
-use crate::system;
-use std::fs::{self, File, Metadata, OpenOptions, TryLockError};
+use crate::{locks, system};
+use std::fs::{self, File, Metadata, OpenOptions};
 use std::io::{self, BufReader, ErrorKind, Read};
 use std::os::fd::AsFd;
 use std::os::unix::fs::{FileTypeExt, MetadataExt, OpenOptionsExt};
@@ -128,9 +128,15 @@ impl Held {
     }
 
     pub fn open_at(place: Place, purpose: Purpose, links: Links) -> Result<Held, Failure> {
-        let file = open_regular(&place, purpose, links)?;
+        let file = loop {
+            let file = open_regular(&place, purpose, links)?;
+            let waited = locks::lock(&file, purpose != Purpose::Read, purpose.verb(), place.named())?;
+            // Whoever was waited for may have put another file there.
+            if !waited || is_at(&file, &place) {
+                break file;
+            }
+        };
         let fails = |why: String| trouble(purpose.verb(), place.named(), why);
-        lock(&file, purpose).map_err(fails)?;
         let found = file.metadata().map_err(|error| fails(error.to_string()))?;
         if purpose != Purpose::Read && found.permissions().readonly() {
             return Err(fails("it is write-protected".to_string()));
@@ -206,18 +212,11 @@ pub fn open_regular(place: &Place, purpose: Purpose, links: Links) -> Result<Fil
     Ok(file)
 }
 
-/// Readers share a lock; whoever replaces the file holds it alone. Nobody is waited for.
-fn lock(file: &File, purpose: Purpose) -> Result<(), String> {
-    let locked = match purpose {
-        Purpose::Read => file.try_lock_shared(),
-        Purpose::Replace | Purpose::ReadAndReplace => file.try_lock(),
-    };
-    match locked {
-        Ok(()) => Ok(()),
-        Err(TryLockError::WouldBlock) => Err("another program has locked it".to_string()),
-        // A file system without locks: the comparison at the end is all there is.
-        Err(TryLockError::Error(error)) if error.kind() == ErrorKind::Unsupported => Ok(()),
-        Err(TryLockError::Error(error)) => Err(error.to_string()),
+/// Whether a file is the one that a place leads to; also where nothing can be said, since then opening it anew is no help.
+fn is_at(file: &File, place: &Place) -> bool {
+    match (file.metadata(), fs::metadata(place.path())) {
+        (Ok(open), Ok(there)) => (open.dev(), open.ino()) == (there.dev(), there.ino()),
+        _ => true,
     }
 }
 

@@ -35,7 +35,8 @@ and an array is always a folder.
 
 A file that is written takes the old one's place when it is complete; until then, and
 after any refusal, the old one is as it was. Files are locked (flock) while they are worked
-on; a file that somebody else writes or replaces meanwhile is left to them. Owner, group,
+on; a file that somebody else has locked is left alone, and the message says who, or waited
+for with --wait SECONDS. One that is written or replaced meanwhile is left to them. Owner, group,
 permissions, access list and attributes stay, but setuid, setgid and sticky don't; what can't
 be kept is narrowed. A signal
 leaves no temporary file; the .navorzim-*.part of a killed run is removed by the next one

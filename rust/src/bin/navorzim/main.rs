@@ -20,6 +20,7 @@ mod help;
 mod inventory;
 mod label;
 mod lists;
+mod locks;
 mod output;
 mod picture;
 mod place;

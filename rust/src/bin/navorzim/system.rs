@@ -97,7 +97,7 @@ pub fn columns(terminal: &impl AsFd) -> Option<usize> {
 }
 
 /// The signals that end a run and can be caught, by their numbers and names.
-const SIGNALS: [(c_int, &str); 3] = [(1, "SIGHUP"), (2, "SIGINT"), (15, "SIGTERM")];
+const SIGNALS: [(c_int, &str); 5] = [(1, "SIGHUP"), (2, "SIGINT"), (3, "SIGQUIT"), (15, "SIGTERM"), (25, "SIGXFSZ")];
 /// What `signal` takes in place of a handler.
 const DEFAULT: usize = 0;
 const IGNORE: usize = 1;
@@ -105,7 +105,7 @@ const IGNORE: usize = 1;
 /// The signal that came, or 0.
 static CAUGHT: AtomicI32 = AtomicI32::new(0);
 /// Those of `SIGNALS` that were ignored when the run began, as `nohup` does.
-static IGNORED: [AtomicBool; 3] = [const { AtomicBool::new(false) }; 3];
+static IGNORED: [AtomicBool; SIGNALS.len()] = [const { AtomicBool::new(false) }; SIGNALS.len()];
 
 extern "C" fn note(number: c_int) {
     CAUGHT.store(number, Ordering::Relaxed);
