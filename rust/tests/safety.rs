@@ -708,3 +708,40 @@ fn three_hundred_runs_that_are_ended_leave_no_half_file() {
     }
     assert!(folder.run("status whole").status == 0 && folder.get("old") == b"as it was");
 }
+
+#[test]
+fn where_a_dash_would_do_it_is_said() {
+    let folder = Folder::square();
+    let made = Command::new("mkfifo").arg(folder.0.join("pipe")).status().expect("mkfifo runs");
+    assert!(made.success());
+    let read = "; a dash, -, reads from standard input, which < leads from there\n";
+    let written = "; a dash, -, writes to standard output, which > leads there\n";
+    for (line, said) in [
+        ("check pipe 0 plan", read),
+        ("check code 0 /dev/null", read),
+        ("encode code --symbol 1 pipe -o new", read),
+        ("split code --symbol 1 pipe -o new", read),
+        ("plan code 0 -o pipe", written),
+        ("show code --svg /dev/null", written),
+        // The test reads the tool's answers through a pipe.
+        ("plan code 0 -o /dev/stdout", "it is this run's standard output; a dash, -, writes there\n"),
+        // Nothing else would do.
+        ("rebuild code 0 plan --symbol 1 pipe --in-place", "it is a pipe, not a regular file\n"),
+        ("plan code 0 -o /dev/stderr", "it is this run's standard error\n"),
+        ("check . 0 plan", "it is a folder\n"),
+    ] {
+        let ran = folder.run(line);
+        assert!(ran.status == 2 && ran.err.ends_with(said), "{line}: {ran:?}");
+    }
+}
+
+#[test]
+fn a_speed_of_nothing_is_not_told() {
+    let folder = Folder::new();
+    folder.put("code", &sheet(2, 1, 1, &[1, 0]));
+    folder.put("data", b"");
+    folder.done("split code --symbol 1 data -o array");
+    folder.remove("array/disk-1");
+    let said = folder.done("restore array");
+    assert!(said.ends_with(" s\n") && !said.contains("MB/s"), "{said}");
+}

@@ -32,7 +32,8 @@ pub fn go_on(verb: &str, path: &Path) -> Result<(), Failure> {
 pub fn read_sheet(path: &Path, longest: usize) -> Result<Vec<u8>, Failure> {
     let mut file = match is_standard(path) {
         true => standard_input()?,
-        false => open_regular(&Place::named_only(path), Purpose::Read, Links::Followed)?,
+        false => open_regular(&Place::named_only(path), Purpose::Read, Links::Followed)
+            .map_err(|failure| or_dash(failure, path, FROM_STANDARD))?,
     };
     let mut sheet = vec![0; longest + 1];
     let length = fill(&mut file, path, &mut sheet)?;
@@ -235,7 +236,10 @@ impl Input {
         let (held, file) = if is_standard(path) {
             (None, standard_input()?)
         } else {
-            let held = Held::open(path, purpose)?;
+            let held = Held::open(path, purpose).map_err(|failure| match purpose {
+                Purpose::Read => or_dash(failure, path, FROM_STANDARD),
+                Purpose::Replace | Purpose::ReadAndReplace => failure,
+            })?;
             let file = held.again()?.file;
             (Some(held), file)
         };
@@ -272,6 +276,19 @@ impl Input {
             Some(held) if filled < most => Err(held.changed()),
             _ => Ok(filled),
         }
+    }
+}
+
+/// What does where a file that isn't a regular one is refused.
+const FROM_STANDARD: &str = "a dash, -, reads from standard input, which < leads from there";
+pub const TO_STANDARD: &str = "a dash, -, writes to standard output, which > leads there";
+
+/// A refusal of a pipe or a device, with what would do in its place.
+pub fn or_dash(failure: Failure, path: &Path, instead: &str) -> Failure {
+    let special = fs::metadata(path).is_ok_and(|found| !found.is_file() && !found.is_dir());
+    match failure {
+        Failure::File(what) if special => Failure::File(format!("{what}; {instead}")),
+        failure => failure,
     }
 }
 

@@ -1,6 +1,6 @@
 //! Files that are written: the new version takes the old one's place whole or not at all.
 use crate::failure::{printable, Failure};
-use crate::files::{go_on, is_standard, trouble, Held, Purpose, BUFFER};
+use crate::files::{go_on, is_standard, or_dash, trouble, Held, Purpose, BUFFER, TO_STANDARD};
 use crate::folders::remove_files;
 use crate::place::{OpenFolder, Place};
 use crate::{rights, system};
@@ -48,7 +48,8 @@ impl Replacement {
         match fs::metadata(path) {
             Ok(found) => {
                 keep_apart(path, &found, kept)?;
-                Replacement::of(Held::open(path, Purpose::Replace)?)
+                let held = Held::open(path, Purpose::Replace);
+                Replacement::of(held.map_err(|failure| or_dash(failure, path, TO_STANDARD))?)
             }
             Err(error) if error.kind() == ErrorKind::NotFound => {
                 new_target(path)?;
@@ -226,8 +227,10 @@ fn keep_apart(path: &Path, found: &Metadata, kept: &[&Path]) -> Result<(), Failu
     if let Some(kept) = kept.iter().find(|kept| !is_standard(kept) && is_target(fs::metadata(kept))) {
         return Err(trouble("write", path, format!("it is also read, as {}", printable(kept))));
     }
-    let streams =
-        [("output", io::stdout().as_fd().try_clone_to_owned()), ("error", io::stderr().as_fd().try_clone_to_owned())];
+    let streams = [
+        ("output; a dash, -, writes there", io::stdout().as_fd().try_clone_to_owned()),
+        ("error", io::stderr().as_fd().try_clone_to_owned()),
+    ];
     for (name, stream) in streams {
         if is_target(stream.and_then(|stream| File::from(stream).metadata())) {
             return Err(trouble("write", path, format!("it is this run's standard {name}")));

@@ -161,14 +161,23 @@ fn write(
     let written = bytes_written(array, targets);
     let (all, seconds) = (bytes_read(array, &sources).saturating_add(written), began.elapsed().as_secs_f64());
     Ok(format!(
-        "restored {}: {}\n  read {}\n  wrote {}, in {seconds:.2} s: {:.0} MB/s\n{}",
+        "restored {}: {}\n  read {}\n  wrote {}, in {seconds:.2} s{}\n{}",
         targets.words(),
         files(array, targets),
         reading(array, &sources),
         counted(written, "byte"),
-        all as f64 / 1e6 / seconds.max(1e-9),
+        rate(all, seconds),
         caution(array)
     ))
+}
+
+/// How fast bytes went, where that is worth a number.
+fn rate(bytes: u64, seconds: f64) -> String {
+    let rate = bytes as f64 / 1e6 / seconds.max(1e-9);
+    match rate >= 0.5 {
+        true => format!(": {rate:.0} MB/s"),
+        false => String::new(),
+    }
 }
 
 /// Blocks that several threads work on, each taking the next one.
