@@ -1233,6 +1233,12 @@ fn help_is_there_and_its_examples_run() {
         assert_eq!(folder.done(&format!("help {command}")), help);
         assert!(help.starts_with(&format!("usage: navorzim {command} ")));
         assert!(help.contains("example: navorzim "), "{command}");
+        // Every usage line of a command that locks files has --wait, and the text says what it does.
+        let usage = help.split("\n\n").next().unwrap_or_default();
+        let waits = !folder.misused(&format!("{command} --wait")).contains("has no option --wait");
+        let expected = if waits { usage.matches("navorzim ").count() } else { 0 };
+        assert_eq!(usage.matches("[--wait SECONDS]").count(), expected, "{usage}");
+        assert_eq!(help.contains("\n  --wait SECONDS  waits so long"), waits, "{help}");
         for example in help.split("example: navorzim ").skip(1) {
             folder.done(example.trim_end());
         }

@@ -35,15 +35,16 @@ and an array is always a folder.
 
 A file that is written takes the old one's place when it is complete; until then, and
 after any refusal, the old one is as it was. Files are locked (flock) while they are worked
-on; a file that somebody else has locked is left alone, and the message says who, or waited
-for with --wait SECONDS. One that is written or replaced meanwhile is left to them. Owner, group,
-permissions, access list and attributes stay, but setuid, setgid and sticky don't; what can't
-be kept is narrowed. A signal
-leaves no temporary file; the .navorzim-*.part of a killed run is removed by the next one
-that writes to the folder.
+on; one that somebody else has locked is left alone, and the message says who has, or it is
+waited for with --wait SECONDS. One that is written or replaced meanwhile is left to them. Owner,
+group, permissions, access list and attributes stay, but setuid, setgid and sticky don't; what
+can't be kept is narrowed. What is made of data, stripes or disks can be read by nobody who can't
+read those. A signal leaves no temporary file; the .navorzim-*.part of a killed run is removed by
+the next one that writes to the folder.
 
-Exit status: 0 done, 1 refused or disks that can't be rebuilt, 2 misuse or a file that
-can't be used, 3 from status where disks are missing and can be rebuilt. A refusal is its number, its place and a sentence, on standard error.
+Exit status: 0 done, 1 refused or disks that can't be rebuilt, 2 misuse or a file that can't be
+used, 3 from status where disks are missing and can be rebuilt. A refusal is its number, its place
+and a sentence, on standard error.
 ";
 
 pub const DEMO: &str = "\
@@ -60,10 +61,10 @@ example: navorzim demo --keep demo-files
 ";
 
 pub const FAMILY: &str = "\
-usage: navorzim family single-parity K R -o CODE
-       navorzim family liberation W K -o CODE
-       navorzim family row-diagonal P -o CODE
-       navorzim family evenodd P -o CODE
+usage: navorzim family single-parity K R -o CODE [--wait SECONDS]
+       navorzim family liberation W K -o CODE [--wait SECONDS]
+       navorzim family row-diagonal P -o CODE [--wait SECONDS]
+       navorzim family evenodd P -o CODE [--wait SECONDS]
 
 Writes the code sheet CODE.
 
@@ -72,13 +73,15 @@ Writes the code sheet CODE.
   row-diagonal   P - 1 data disks of P - 1 rows and two parity disks; P is 3, 5 or 7
   evenodd        P data disks of P - 1 rows and two parity disks; P is 3, 5 or 7
 
+  --wait SECONDS  waits so long for files that somebody else has locked
+
 Refused: 36.
 
 example: navorzim family liberation 5 5 -o code.sheet
 ";
 
 pub const SPLIT: &str = "\
-usage: navorzim split CODE --symbol L DATA -o ARRAY
+usage: navorzim split CODE --symbol L DATA -o ARRAY [--wait SECONDS]
 
 Makes an array of the file DATA: the folder ARRAY, which must be new or empty, with a file for
 each disk, disk-0 and so on, and a text, `array`, that describes them. A disk's file holds its
@@ -88,7 +91,9 @@ what was there. Each split draws an identity from the system, so that no disk of
 or of an older version of the same data, is ever taken for one of this array.
 
 The folder has its name only when all of it is complete and on disk. An empty folder that has the
-name gives it up, and its rights with it.
+name gives it up, and its rights with it. Whoever can't read DATA can't read the disks.
+
+  --wait SECONDS  waits so long for files that somebody else has locked
 
 Needs a code in which each data symbol stands somewhere as it is, as those of all families do:
 else nothing is written.
@@ -99,16 +104,17 @@ example: navorzim split code.sheet --symbol 64 register.txt -o array/
 ";
 
 pub const STATUS: &str = "\
-usage: navorzim status ARRAY [--read] [--without DISKS] [--links]
+usage: navorzim status ARRAY [--read] [--without DISKS] [--links] [--wait SECONDS]
 
 Says of each disk of an array whether its file is there and has the right length and label, what
 else is in the folder, and whether the disks that aren't there can be rebuilt, and what that
 reads. Nothing is written, and of a disk's file only the label is read.
 
-  --read       reads every byte of every disk, and says which disk can't be read, and where
-  --without DISKS  takes these disks as lost, though they are there
-  --links      takes links in the disks' places, for arrays whose disks lie on several media;
-               without it a link is no disk
+  --read          reads every byte of every disk, and says which disk can't be read, and where
+  --without DISKS takes these disks as lost, though they are there
+  --links         takes links in the disks' places, for arrays whose disks lie on several media;
+                  without it a link is no disk
+  --wait SECONDS  waits so long for files that somebody else has locked
 
 Exit status: 0 if all disks are there and sound to look at, 3 if some are missing and can be
 rebuilt, 1 if they can't be rebuilt, or something else stands in a disk's place.
@@ -118,24 +124,26 @@ example: navorzim status array/
 
 pub const RESTORE: &str = "\
 usage: navorzim restore ARRAY [DISKS] [--plan PLAN] [--dry-run] [--without DISKS] [--links]
+                        [--wait SECONDS]
 
 Rebuilds the missing disks of an array, or of those only DISKS: one like 3, or several like 0,3.
 Plans anew from the code in `array`, has the plan checked, for every block of stripes again,
-and opens only the disks and reads only the symbols that it needs. Surviving disks are never
+and reads only the symbols that it needs, and of other disks the label. Surviving disks are never
 written. What stands in a disk's place is never replaced: move it away first; by its label a disk
-of another array is known, and never read as one of this array. A disk's file has
-its name only when it is complete. Its rights are no wider than those of every file that was
-read; it goes to another owner or group only if they and the folder all have that, else it stays
-with whoever runs this, mode 600.
+of another array is known, and never read as one of this array. A disk's file has its name only
+when it is complete. Its rights are no wider than those of every file that was read; it goes to
+another owner or group only if they and the folder all have that, else it stays with whoever runs
+this, mode 600.
 
 Where `array` is lost, the labels have it, if those that are there agree: it is written anew.
 
-  --plan PLAN  goes by this plan, which is checked like any other. It must be for all disks that
-               can't be read, and bring the whole disks back
-  --dry-run    says what would be read and written, and does nothing
-  --without DISKS  takes these disks as lost, though they are there: they are neither read nor
-               replaced. For disks that can't be read to their end
-  --links      takes links in the disks' places
+  --plan PLAN     goes by this plan, which is checked like any other. It must be for all disks that
+                  can't be read, and bring the whole disks back
+  --dry-run       says what would be read and written, and does nothing
+  --without DISKS takes these disks as lost, though they are there: they are neither read nor
+                  replaced. For disks that can't be read to their end
+  --links         takes links in the disks' places
+  --wait SECONDS  waits so long for files that somebody else has locked
 
 Refused: the code sheet (1 to 6), 7 (no such disk), the plan (7 and 11 to 25). If no plan can
 bring the disks back, says so, prints the pattern that shows it, and ends with status 1.
@@ -145,11 +153,14 @@ example: navorzim restore array/ --dry-run
 ";
 
 pub const JOIN: &str = "\
-usage: navorzim join ARRAY -o DATA [--without DISKS] [--links]
+usage: navorzim join ARRAY -o DATA [--without DISKS] [--links] [--wait SECONDS]
 
 Makes the file of an array again, exactly as long as it was. Where disks are missing whose data
-can be rebuilt from the others, that is done on the way; the array stays as it is. --without
-takes disks as lost that are there but can't be read; --links takes links in the disks' places.
+can be rebuilt from the others, that is done on the way; the array stays as it is.
+
+  --without DISKS takes these disks as lost, though they are there, where they can't be read
+  --links         takes links in the disks' places
+  --wait SECONDS  waits so long for files that somebody else has locked
 
 If no plan can bring the data back, says so, prints the pattern that shows it, writes no file
 and ends with status 1.
@@ -158,13 +169,14 @@ example: navorzim join array/ -o joined.txt
 ";
 
 pub const ENCODE: &str = "\
-usage: navorzim encode CODE --symbol L DATA [--length BYTES] -o STRIPES
+usage: navorzim encode CODE --symbol L DATA [--length BYTES] -o STRIPES [--wait SECONDS]
 
 Reads the code sheet CODE and the file DATA, which holds K × L bytes for each stripe; writes
 as many stripes of N × L bytes to STRIPES.
 
   --length BYTES  DATA has so many bytes, which need not fill the last stripe: it is filled up
                   with zeros. Without it DATA must be whole stripes' data, of one stripe or more
+  --wait SECONDS  waits so long for files that somebody else has locked
 
 Refused: the code sheet (1 to 6), 31 (L is 1 to 65,536), 33 (DATA isn't whole stripes' data).
 
@@ -172,7 +184,7 @@ example: navorzim encode code.sheet --symbol 64 register.txt -o stripes.bin
 ";
 
 pub const DECODE: &str = "\
-usage: navorzim decode CODE --symbol L STRIPES [--length BYTES] -o DATA
+usage: navorzim decode CODE --symbol L STRIPES [--length BYTES] -o DATA [--wait SECONDS]
 
 Reads the code sheet CODE and the stripes of N × L bytes in STRIPES; writes their data, K × L
 bytes for each stripe, to DATA. Each data symbol is read where it stands as it is, and nothing
@@ -180,6 +192,7 @@ is rebuilt.
 
   --length BYTES  writes so many bytes, those that encode --length took. STRIPES must have just
                   as many stripes as they fill
+  --wait SECONDS  waits so long for files that somebody else has locked
 
 Needs a code in which each data symbol stands somewhere as it is, as those of all families do.
 
@@ -189,7 +202,7 @@ example: navorzim decode code.sheet --symbol 64 stripes.bin -o decoded.txt
 ";
 
 pub const PLAN: &str = "\
-usage: navorzim plan CODE DISKS [--want LIST] -o PLAN
+usage: navorzim plan CODE DISKS [--want LIST] -o PLAN [--wait SECONDS]
 
 Reads the code sheet CODE; writes the plan sheet PLAN, by which the lost disks DISKS can be
 rebuilt: one, like 3, or several, like 0,3. If no plan can do that, says so, prints the pattern
@@ -201,6 +214,7 @@ same bytes on all surviving disks.
                the disks, or symbols by number, s5,s7 or s5-s7, or both, separated by commas.
                Their order doesn't matter, and what is named twice counts once. Without --want
                the whole disks are wanted.
+  --wait SECONDS  waits so long for files that somebody else has locked
 
 A plan for one disk is a sheet of edition 1, with --want of edition 2; one for several disks is
 a sheet of edition 3.
@@ -228,8 +242,8 @@ example: navorzim check code.sheet 0,3 both.sheet
 ";
 
 pub const REBUILD: &str = "\
-usage: navorzim rebuild CODE DISKS PLAN --symbol L STRIPES -o OUT
-       navorzim rebuild CODE DISKS PLAN --symbol L STRIPES --in-place
+usage: navorzim rebuild CODE DISKS PLAN --symbol L STRIPES -o OUT [--wait SECONDS]
+       navorzim rebuild CODE DISKS PLAN --symbol L STRIPES --in-place [--wait SECONDS]
 
 Reads the code sheet CODE, the plan sheet PLAN and the stripes of N × L bytes in STRIPES;
 writes them with the strips of the lost disks DISKS, one like 3 or several like 0,3, rebuilt in
@@ -241,6 +255,8 @@ A wrong L, disk or code is refused only where the lengths or the plan don't fit 
 do, good symbols are overwritten: the answer says which L, disks and code were used, so keep
 STRIPES until it has been read.
 
+  --wait SECONDS  waits so long for files that somebody else has locked
+
 Refused: the code sheet (1 to 6), 7 (no such disk), the plan (7 and 11 to 25), 31 (L is 1 to
 65,536), 32 (STRIPES isn't whole stripes). STRIPES is then as it was.
 
@@ -250,10 +266,12 @@ example: navorzim rebuild code.sheet 0 plan.sheet --symbol 64 stripes.bin --in-p
 ";
 
 pub const STRIP: &str = "\
-usage: navorzim strip CODE DISK --symbol L STRIPES -o OUT
+usage: navorzim strip CODE DISK --symbol L STRIPES -o OUT [--wait SECONDS]
 
 Reads the code sheet CODE and the stripes of N × L bytes in STRIPES; writes the strips of
 disk DISK, r × L bytes of each stripe, one after the other to OUT.
+
+  --wait SECONDS  waits so long for files that somebody else has locked
 
 Refused: the code sheet (1 to 6), 7 (no such disk), 31 (L is 1 to 65,536), 32 (STRIPES isn't
 whole stripes).
@@ -262,7 +280,7 @@ example: navorzim strip code.sheet 0 --symbol 64 stripes.bin -o disk0.bin
 ";
 
 pub const SHOW: &str = "\
-usage: navorzim show CODE [--disk DISKS] [--plan PLAN | --want LIST] [--svg FILE]
+usage: navorzim show CODE [--disk DISKS] [--plan PLAN | --want LIST] [--svg FILE] [--wait SECONDS]
 
 Reads the code sheet CODE and draws it: disks as columns, rows as cells.
 
@@ -275,6 +293,7 @@ Reads the code sheet CODE and draws it: disks as columns, rows as cells.
   --want LIST  plans for these symbols of the lost disks only, as plan --want does; the lost
                symbols that aren't wanted are drawn apart
   --svg FILE   writes the picture to FILE besides, or with - to standard output instead
+  --wait SECONDS  waits so long for files that somebody else has locked
 
 Colours appear on a terminal, unless NO_COLOR is set; COLUMNS sets the width (else the
 terminal's own, or 80).
