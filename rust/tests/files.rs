@@ -290,12 +290,18 @@ fn a_folders_own_access_list_widens_nothing() {
     folder.done("rebuild code 0 plan --symbol 1 stripes --in-place");
     assert_eq!(folder.python(READ_ALL).expect("read"), "[]\n");
     assert_eq!(rights(&folder, "stripes").0, 0o640);
-    // A new file gets what any new file gets here.
+    // A new file gets what any new file gets here, if it is made of no data.
     folder.put("touched", b"");
-    folder.done("strip code 0 --symbol 1 stripes -o out");
+    folder.done("plan code 0 -o out");
     assert_eq!(rights(&folder, "out"), rights(&folder, "touched"));
-    let list = |name: &str| READ_ALL.replace("'stripes'", &format!("'{name}'"));
-    assert_eq!(folder.python(&list("out")), folder.python(&list("touched")));
+    let list = |name: &str| folder.python(&READ_ALL.replace("'stripes'", &format!("'{name}'")));
+    assert_eq!(list("out"), list("touched"));
+    // What is made of data has the folder's list only if they have it.
+    folder.done("strip code 0 --symbol 1 stripes -o narrow");
+    assert_eq!((rights(&folder, "narrow").0, list("narrow").as_deref()), (0o600, Some("[]\n")));
+    folder.put("listed", &folder.get("stripes"));
+    folder.done("strip code 0 --symbol 1 listed -o wide");
+    assert_eq!((rights(&folder, "wide"), list("wide")), (rights(&folder, "touched"), list("touched")));
 }
 
 #[test]

@@ -173,6 +173,85 @@ fn a_restored_disk_goes_to_an_owner_and_group_that_all_have() {
 
 #[test]
 fn a_new_version_acts_for_nobody() {
+/// Runs lines of a shell in the folder.
+fn shell(folder: &Folder, lines: &str) {
+    let ran = Command::new("sh").args(["-ec", lines]).current_dir(&folder.0).output().expect("sh runs");
+    assert!(ran.status.success(), "{lines}: {ran:?}");
+}
+
+/// What each command makes of private data, stripes and disks, with the usual mask.
+#[test]
+fn what_is_made_of_private_files_is_private() {
+    let folder = Folder::square();
+    folder.done("split code --symbol 1 data -o array");
+    for mode in [0o600, 0o640, 0o644, 0o604, 0o444, 0o666] {
+        for name in ["data", "stripes", "array/array", "array/disk-0", "array/disk-3"] {
+            fs::set_permissions(folder.0.join(name), Permissions::from_mode(mode)).expect("set");
+        }
+        for (line, made) in [
+            ("encode code --symbol 1 data -o out", "out"),
+            ("decode code --symbol 1 stripes -o out", "out"),
+            ("rebuild code 0 plan --symbol 1 stripes -o out", "out"),
+            ("strip code 0 --symbol 1 stripes -o out", "out"),
+            ("join array -o out", "out"),
+            ("split code --symbol 1 data -o out", "out/disk-3"),
+            ("split code --symbol 1 data -o out", "out/array"),
+        ] {
+            shell(&folder, &format!("umask 022; '{TOOL}' {line}"));
+            assert_eq!(rights(&folder, made).0, 0o600 | mode & 0o044, "{line}: {mode:o}");
+            shell(&folder, "rm -r out");
+        }
+    }
+    if !is_root(&folder) {
+        return;
+    }
+    // Another's group counts among the others, and their owner too.
+    for (mode, expected) in [(0o640, 0o600), (0o644, 0o644), (0o604, 0o600), (0o244, 0o600)] {
+        set_rights(&folder, "data", (mode, NOBODY, NOBODY));
+        shell(&folder, &format!("umask 022; '{TOOL}' encode code --symbol 1 data -o out"));
+        assert_eq!(rights(&folder, "out"), (expected, 0, 0), "{mode:o}");
+        folder.remove("out");
+    }
+}
+
+#[test]
+fn an_arrays_files_have_the_group_of_its_folder() {
+    let folder = Folder::square();
+    if !is_root(&folder) {
+        return;
+    }
+    // New in a folder that hands its group on, and in the place of an empty one that does.
+    for (made, array) in [("team", "team/array"), ("array", "array")] {
+        fs::create_dir(folder.0.join(made)).expect("made");
+        set_rights(&folder, made, (0o2770, 0, 1234));
+        folder.done(&format!("split code --symbol 1 data -o {array}"));
+        for name in ["array", "disk-0", "disk-3"] {
+            assert_eq!(rights(&folder, &format!("{array}/{name}")).2, 1234, "{array}/{name}");
+        }
+        assert_eq!(rights(&folder, array).0 & 0o2000, 0o2000);
+    }
+}
+
+/// Whoever may rename a folder but not remove what is in it could have the tool remove it, under the name of an abandoned one.
+#[test]
+fn nobody_has_another_ones_folder_removed() {
+    let folder = Folder::square();
+    if !is_root(&folder) {
+        return;
+    }
+    let (around, left) = ("theirs", "theirs/.navorzim-1-ab-0.part");
+    for (owner, mode, removed) in
+        [(NOBODY, 0o755, false), (0, 0o777, false), (0, 0o775, false), (0, 0o755, true), (0, 0o1777, true)]
+    {
+        shell(&folder, &format!("mkdir -p {left}; echo precious >{left}/keep"));
+        set_rights(&folder, around, (mode, owner, owner));
+        folder.done("plan code 0 -o theirs/out");
+        folder.done("split code --symbol 1 data -o theirs/array");
+        assert_eq!(folder.has(&format!("{left}/keep")), !removed, "{owner} {mode:o}");
+        shell(&folder, "rm -r theirs");
+    }
+}
+
     let folder = Folder::square();
     for mode in [0o4755, 0o2755, 0o1644, 0o7777] {
         fs::set_permissions(folder.0.join("stripes"), Permissions::from_mode(mode)).expect("set");
@@ -209,6 +288,33 @@ fn a_folder_that_is_exchanged_meanwhile_is_still_the_one_that_was_opened() {
 
 /// Somebody exchanges the folder for a link to another one, over and over, while root restores a disk.
 #[test]
+#[test]
+fn new_files_and_folders_are_made_where_they_were_asked_for() {
+    for line in [
+        "encode code --symbol 1 data -o here/out",
+        "join array -o here/out",
+        "split code --symbol 1 data -o here/out",
+        // An empty folder is replaced, and not another one that is there by then.
+        "split code --symbol 1 data -o here/empty",
+    ] {
+        let folder = Folder::square();
+        folder.done("split code --symbol 1 data -o array");
+        shell(&folder, "mkdir -p here/empty victim/empty");
+        let ran = folder.run_with(line, "AT_FLUSH", "[ -h here ] || { mv here moved && ln -s victim here; }");
+        assert_eq!(ran.status, 0, "{line}: {ran:?}");
+        assert!(folder.has("moved/out") || folder.has("moved/empty/array"), "{line}");
+        assert!(!folder.has("victim/out") && !folder.has("victim/empty/array"), "{line}");
+        assert_eq!(folder.temporaries(), 0);
+    }
+    // The empty folder itself is exchanged.
+    let folder = Folder::square();
+    shell(&folder, "mkdir empty victim");
+    let exchange = "[ -d moved ] || { mv empty moved && mv victim empty; }";
+    let ran = folder.run_with("split code --symbol 1 data -o empty", "AT_FLUSH", exchange);
+    assert!(ran.status == 2 && ran.err.contains("can't use empty: somebody else replaced it meanwhile"), "{ran:?}");
+    assert_eq!((folder.has("empty/array"), folder.temporaries()), (false, 0));
+}
+
 fn nothing_is_written_to_a_folder_that_a_link_leads_to_meanwhile() {
     let folder = Folder::new();
     plain(&folder, &[b"sum!", b"....", b"sum!"]);

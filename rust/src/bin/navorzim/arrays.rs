@@ -11,10 +11,11 @@ use crate::gather::Blocks;
 use crate::inventory::{way_out, Found, Inventory};
 use crate::lists::rising;
 use crate::output::Output;
+use crate::place::Place;
 use crate::planning::{checked, checked_plan, no_plan, plan_anew};
 use crate::progress::Progress;
 use crate::recovery::{reading, Recovery, Room};
-use crate::replacement::{Model, Replacement};
+use crate::replacement::{handles, Model, Replacement};
 use crate::sheets::{counted, Code};
 use crate::stream::{End, Pieces, Stream};
 use crate::wanted::Wanted;
@@ -46,8 +47,9 @@ fn write(mut stream: Stream, path: &Path, code: Code, symbol_length: u64) -> Res
     let birth = Birth::draw()?;
     let folder = NewFolder::make(path)?;
     let array = Array::new(folder.open(), birth.clone(), code, symbol_length, 0);
-    let begin = |disk: usize| Replacement::begin_new(array.disk(disk), Model::New);
-    let mut disks = (0..array.code.disks).map(begin).collect::<Result<Vec<_>, Failure>>()?;
+    let begin = |place: Place| Replacement::begin_new(place, Model::New(handles(stream.input().held())?));
+    let mut disks = (0..array.code.disks).map(|disk| begin(array.disk(disk))).collect::<Result<Vec<_>, Failure>>()?;
+    let mut description = begin(array.description())?;
     let code = &array.code;
     let mut piece = vec![0; Pieces::data(code, symbol_length).length()];
     let mut stripe = vec![0; Pieces::stripes(code, symbol_length).length()];
@@ -67,7 +69,6 @@ fn write(mut stream: Stream, path: &Path, code: Code, symbol_length: u64) -> Res
         file.write(&array.label(disk))?;
         file.complete()?;
     }
-    let mut description = Replacement::begin_new(array.description(), Model::New)?;
     description.write(array.text().as_bytes())?;
     for file in disks.into_iter().chain([description]) {
         file.finish(stream.input().held())?;
@@ -181,12 +182,12 @@ pub fn join(arguments: &mut Arguments) -> Result<String, Failure> {
         }
     };
     let recovery = Recovery::open(&array, &lost, plan.as_ref(), &there)?;
-    let kept: Vec<&Path> = recovery.survivors().held().chain(&description).map(Held::named).collect();
-    let mut file = Output::begin(&output, &kept)?;
+    let made_of: Vec<&Held> = recovery.survivors().held().chain(&description).collect();
+    let mut file = Output::begin(&output, &[], &made_of)?;
     let progress = Progress::new(Some(array.stripes));
     write_data(&array, &recovery, &homes, &mut file, &progress)?;
     progress.flushing("it".to_string());
-    file.finish(recovery.survivors().held().chain(&description))?;
+    file.finish(made_of)?;
     let rebuilt = match plan {
         None => String::new(),
         Some(_) => format!(", with {} rebuilt on the way", lost.words()),

@@ -31,15 +31,15 @@ fn is_empty(named: &Path, path: &Path) -> Result<(), Failure> {
     Ok(())
 }
 
-/// A folder for files that belong together. It is made under a temporary name, which nobody else can look into, and has its own name
-/// only when all of it is complete and on the disk. If it is dropped before that, nothing is left behind.
+/// A folder for files that belong together. It is made under a temporary name, where only its owner can look into it, and has its own
+/// name only when all of it is complete and on the disk. If it is dropped before that, nothing is left behind.
 pub struct NewFolder {
     target: Place,
     parent: Arc<OpenFolder>,
     open: Arc<OpenFolder>,
-    /// the rights that any program gives a new folder
+    /// the permissions that it has in the end
     mode: u32,
-    /// the empty folder that stands in its place, whose rights it gets
+    /// the empty folder that stands in its place
     old: Option<Arc<OpenFolder>>,
     /// none once it has its name
     temporary: Option<PathBuf>,
@@ -55,9 +55,14 @@ impl NewFolder {
         let fails = |error: io::Error| trouble("make", path, error);
         let (temporary, handle) = create_in(&parent.path(), make_here).map_err(fails)?;
         let made = |handle: File| {
-            let mode = handle.metadata()?.mode() & 0o7777;
-            handle.set_permissions(Permissions::from_mode(0o700))?;
-            Ok((mode, OpenFolder::from_handle(path, handle)?))
+            let open = OpenFolder::from_handle(path, handle)?;
+            // Whoever may rename here could have put another one in its place: nothing that is in it is ours.
+            if fs::read_dir(open.path())?.next().is_some() {
+                return Err(ErrorKind::DirectoryNotEmpty.into());
+            }
+            let mode = final_mode(open.handle(), old.as_deref())?;
+            open.handle().set_permissions(Permissions::from_mode(0o700 | mode & SETGID))?;
+            Ok((mode, open))
         };
         match made(handle) {
             Ok((mode, open)) => Ok(NewFolder { target, parent, open, mode, old, temporary: Some(temporary) }),
@@ -83,8 +88,10 @@ impl NewFolder {
             }
             _ => trouble("make", self.target.named(), error),
         };
-        self.give_rights().and_then(|()| self.open.handle().sync_all()).map_err(fails)?;
+        let handle = self.open.handle();
+        handle.set_permissions(Permissions::from_mode(self.mode)).and_then(|()| handle.sync_all()).map_err(fails)?;
         go_on("make", self.target.named())?;
+        is_still_there(&self.target, self.old.as_deref())?;
         if let Some(temporary) = &self.temporary {
             fs::rename(temporary, self.target.path()).map_err(fails)?;
         }
@@ -92,19 +99,28 @@ impl NewFolder {
         let synced = self.parent.handle().sync_all();
         synced.map_err(|error| trouble("bring to the disk the folder of", self.target.named(), error))
     }
+}
 
-    fn give_rights(&self) -> io::Result<()> {
-        let handle = self.open.handle();
-        let Some(old) = &self.old else {
-            return handle.set_permissions(Permissions::from_mode(self.mode));
-        };
-        rights::take_over(handle, old.handle())?;
-        let (now, before) = (handle.metadata()?, old.handle().metadata()?);
-        match (now.uid(), now.gid()) == (before.uid(), before.gid()) {
-            // In a folder these bits give nobody another's rights.
-            true => handle.set_permissions(Permissions::from_mode(before.mode() & 0o7777)),
-            false => Ok(()),
-        }
+/// Where files get the folder's group.
+const SETGID: u32 = 0o2000;
+
+/// Gives a new folder owner, group and attributes of an old one, since the files that are made in it go by them, and answers the
+/// permissions that it is to have. Without an old one these are what any program gives a new folder.
+fn final_mode(new: &File, old: Option<&OpenFolder>) -> io::Result<u32> {
+    let Some(old) = old else { return Ok(new.metadata()?.mode() & 0o7777) };
+    rights::take_over(new, old.handle())?;
+    let (now, before) = (new.metadata()?, old.handle().metadata()?);
+    let kept = (now.uid(), now.gid()) == (before.uid(), before.gid());
+    // In a folder these bits give nobody another's rights.
+    Ok(now.mode() & 0o777 | if kept { before.mode() & 0o7000 } else { 0 })
+}
+
+/// Refuses if the empty folder that is to be replaced isn't at the place itself: a folder on the way may have been exchanged.
+fn is_still_there(place: &Place, old: Option<&OpenFolder>) -> Result<(), Failure> {
+    let Some(old) = old else { return Ok(()) };
+    match (fs::symlink_metadata(place.path()), old.handle().metadata()) {
+        (Ok(now), Ok(before)) if (now.dev(), now.ino()) == (before.dev(), before.ino()) => Ok(()),
+        _ => Err(trouble("use", place.named(), "somebody else replaced it meanwhile")),
     }
 }
 
@@ -125,6 +141,7 @@ fn target(path: &Path) -> Result<(Place, Option<Arc<OpenFolder>>), Failure> {
         return Err(trouble("use", path, "the folder one is in isn't replaced: name a new one in it"));
     }
     let place = Place::within_folder(path, &made).map_err(|error| trouble("make", path, error))?;
+    is_still_there(&place, old.as_deref())?;
     Ok((place, old))
 }
 

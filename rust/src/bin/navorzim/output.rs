@@ -13,18 +13,19 @@ pub enum Output {
 }
 
 impl Output {
-    /// Begins a file, which must be none of `kept`, or standard output. A terminal is no place for bytes that aren't text.
-    pub fn begin(path: &Path, kept: &[&Path]) -> Result<Output, Failure> {
+    /// Begins a file, which must be none of `kept` nor of those that it is made of, or standard output. A terminal is no place for
+    /// bytes that aren't text.
+    pub fn begin(path: &Path, kept: &[&Path], made_of: &[&Held]) -> Result<Output, Failure> {
         if is_standard(path) && io::stdout().is_terminal() {
             return Err(trouble("write", path, "standard output is a terminal: send it to a file or to a program"));
         }
-        Output::begin_text(path, kept)
+        Output::begin_any(path, kept, made_of)
     }
 
-    /// The same for text, which a terminal can show.
-    fn begin_text(path: &Path, kept: &[&Path]) -> Result<Output, Failure> {
+    /// The same for text too, which a terminal can show.
+    fn begin_any(path: &Path, kept: &[&Path], made_of: &[&Held]) -> Result<Output, Failure> {
         if !is_standard(path) {
-            return Ok(Output::File(Box::new(Replacement::begin(path, kept)?)));
+            return Ok(Output::File(Box::new(Replacement::begin(path, kept, made_of)?)));
         }
         let file = io::stdout().as_fd().try_clone_to_owned().map_err(|error| trouble("write", path, error))?;
         Ok(Output::Standard(BufWriter::with_capacity(BUFFER, File::from(file))))
@@ -56,12 +57,12 @@ impl Output {
 
 /// Writes a sheet whole.
 pub fn put(path: &Path, kept: &[&Path], sheet: &[u8]) -> Result<(), Failure> {
-    whole(Output::begin(path, kept)?, sheet)
+    whole(Output::begin(path, kept, &[])?, sheet)
 }
 
 /// Writes a text whole.
 pub fn put_text(path: &Path, kept: &[&Path], text: &str) -> Result<(), Failure> {
-    whole(Output::begin_text(path, kept)?, text.as_bytes())
+    whole(Output::begin_any(path, kept, &[])?, text.as_bytes())
 }
 
 fn whole(mut output: Output, bytes: &[u8]) -> Result<(), Failure> {

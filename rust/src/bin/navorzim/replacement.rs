@@ -38,23 +38,24 @@ pub enum Model {
     Like(File),
     /// those that all files have that it is made of
     MadeOf(Vec<File>),
-    /// those that any program gives a new file
-    New,
+    /// those that any program gives a new file, as far as all files have them that it is made of
+    New(Vec<File>),
 }
 
 impl Replacement {
-    /// Begins a new version of the target, which must be none of `kept`.
-    pub fn begin(path: &Path, kept: &[&Path]) -> Result<Replacement, Failure> {
+    /// Begins a new version of the target, which must be none of `kept` nor of the files that it is made of.
+    pub fn begin(path: &Path, kept: &[&Path], made_of: &[&Held]) -> Result<Replacement, Failure> {
         match fs::metadata(path) {
             Ok(found) => {
-                keep_apart(path, &found, kept)?;
+                let read: Vec<&Path> = made_of.iter().map(|held| held.named()).collect();
+                keep_apart(path, &found, &[kept, &read].concat())?;
                 let held = Held::open(path, Purpose::Replace);
                 Replacement::of(held.map_err(|failure| or_dash(failure, path, TO_STANDARD))?)
             }
             Err(error) if error.kind() == ErrorKind::NotFound => {
                 new_target(path)?;
                 let target = Place::within_folder(path, path).map_err(|error| fails_at_folder(path, error))?;
-                Replacement::at(target, None, Model::New)
+                Replacement::at(target, None, Model::New(handles(made_of.iter().copied())?))
             }
             Err(error) => Err(trouble("write", path, error)),
         }
@@ -98,9 +99,10 @@ impl Replacement {
         };
         let model = match model {
             // An empty file shows what the folder and the user's mask make of a new one.
-            Model::New => {
+            Model::New(sources) => {
                 let (path, model) = create(0o666)?;
                 let _ = fs::remove_file(path);
+                rights::limit(&model, &sources).map_err(|error| trouble("write", target.named(), error))?;
                 Model::Like(model)
             }
             Model::Old(_) | Model::Like(_) | Model::MadeOf(_) => model,
@@ -140,7 +142,7 @@ impl Replacement {
             Model::Old(old) => rights::take_over(file, old)?,
             Model::Like(model) => rights::resemble(file, model)?,
             Model::MadeOf(sources) => rights::share(file, sources, self.folder.handle())?,
-            Model::New => {}
+            Model::New(sources) => rights::limit(file, sources)?,
         }
         file.sync_all()
     }
@@ -194,6 +196,11 @@ impl Drop for Replacement {
             let _ = fs::remove_file(temporary);
         }
     }
+}
+
+/// The open files themselves.
+pub fn handles<'a>(files: impl IntoIterator<Item = &'a Held>) -> Result<Vec<File>, Failure> {
+    files.into_iter().map(|held| Ok(held.again()?.file)).collect()
 }
 
 /// Gives the file a name that nobody has: a rename would replace what somebody else put there meanwhile, a further link doesn't.
@@ -282,13 +289,25 @@ pub fn remove_abandoned(folder: &Path) {
         let opened = OpenOptions::new().read(true).custom_flags(flags).open(entry.path());
         // The lock is held until it is removed, so that nobody begins to write to it.
         let Some(dead) = opened.ok().filter(|file| file.try_lock().is_ok()) else { continue };
-        if !dead.metadata().is_ok_and(|found| found.is_dir()) {
+        let Ok(found) = dead.metadata() else { continue };
+        if !found.is_dir() {
             let _ = fs::remove_file(entry.path());
-        } else if let Ok(dead) = OpenFolder::from_handle(folder, dead) {
+        } else if let (true, Ok(dead)) = (is_named_by_its_owner(folder, &found), OpenFolder::from_handle(folder, dead))
+        {
             remove_files(&dead.path());
             let _ = fs::remove_dir(entry.path());
         }
     }
+}
+
+/// Whether nobody but root and a folder's owner can have given it its name. Who else may write to the folder around it could have
+/// given that name to a folder whose files they may not remove.
+fn is_named_by_its_owner(around: &Path, found: &Metadata) -> bool {
+    const STICKY: u32 = 0o1000;
+    fs::metadata(around).is_ok_and(|around| {
+        let others_write = around.mode() & 0o022 != 0 && around.mode() & STICKY == 0;
+        [0, found.uid()].contains(&around.uid()) && !others_write
+    })
 }
 
 /// Whether a name is one that `create_in` gives, and no user's.

@@ -10,7 +10,7 @@ use crate::inventory::{Found, Inventory};
 use crate::planning::{checked, checked_plan};
 use crate::progress::Progress;
 use crate::recovery::{bytes_read, reading, Recovery, Room};
-use crate::replacement::{Model, Replacement};
+use crate::replacement::{handles, Model, Replacement};
 use crate::sheets::{counted, Code, Plan};
 use crate::wanted::{places, Wanted};
 use navorzim::Refusal;
@@ -142,8 +142,8 @@ fn write(
     let recovery = Recovery::open(array, lost, Some(plan), &[])?;
     let read = || recovery.survivors().held().chain(description);
     let begin = |disk: u64| {
-        let sources = read().map(|held| Ok(held.again()?.file)).collect::<Result<Vec<_>, Failure>>()?;
-        Ok((disk as usize, Replacement::begin_new(array.disk(disk as usize), Model::MadeOf(sources))?))
+        let model = Model::MadeOf(handles(read())?);
+        Ok((disk as usize, Replacement::begin_new(array.disk(disk as usize), model)?))
     };
     let mut disks = targets.iter().map(begin).collect::<Result<Vec<_>, Failure>>()?;
     let progress = Progress::new(Some(array.stripes));

@@ -18,6 +18,49 @@ pub fn resemble(file: &File, model: &File) -> io::Result<()> {
     give(file, model, |_, _| Ok(()))
 }
 
+/// Takes from a new, empty file the rights that somebody hasn't to every file that it will be made of. Its owner keeps theirs: they
+/// could read all of them.
+pub fn limit(file: &File, sources: &[File]) -> io::Result<()> {
+    let now = file.metadata()?;
+    let own = attribute(file, LIST)?;
+    let lists = sources.iter().map(|source| attribute(source, LIST)).collect::<io::Result<Vec<_>>>()?;
+    let shared = match lists.iter().all(|list| *list == own) {
+        true => 0o777,
+        false => {
+            remove_attribute(file, LIST)?;
+            // With a list the group's bits are those of the list, and without one of theirs nobody knows whom it shut out.
+            if lists.iter().all(Option::is_none) {
+                0o707
+            } else {
+                0o700
+            }
+        }
+    };
+    let mut mode = now.mode() & shared;
+    for source in sources {
+        mode &= 0o700 | rights_to(&source.metadata()?, &now);
+    }
+    file.set_permissions(Permissions::from_mode(mode))
+}
+
+/// What a file's mode lets the owner, the group and the others of another file do with it: those who may count among two of its
+/// classes get what both have.
+fn rights_to(file: &Metadata, other: &Metadata) -> u32 {
+    let (user, mut group, mut others) = classes(file.mode());
+    if file.uid() != other.uid() {
+        (group, others) = (group & user, others & user);
+    }
+    if file.gid() != other.gid() {
+        (group, others) = (group & others, group & others);
+    }
+    user << 6 | group << 3 | others
+}
+
+/// The bits of the owner, the group and the others.
+fn classes(mode: u32) -> (u32, u32, u32) {
+    (mode >> 6 & 7, mode >> 3 & 7, mode & 7)
+}
+
 /// Gives a file that was made of others rights no wider than those of every one of them. It goes to another owner or group only if
 /// all of them and the folder have that: whoever put a stranger's file among them gets nothing of it. Else it stays with whoever runs
 /// the tool, for nobody else to see.
@@ -71,7 +114,7 @@ fn give(file: &File, model: &File, attributes: fn(&File, &File) -> io::Result<()
 /// Permissions for another owner or group. Whoever counted as the old owner or a member of the old group counts among the others
 /// now, and gets no more than before. Nobody gains what a program's owner may do (setuid, setgid) by new bytes, as by any write.
 fn narrowed(mode: u32, owner_kept: bool, group_kept: bool) -> u32 {
-    let (user, mut group, mut others) = (mode >> 6 & 7, mode >> 3 & 7, mode & 7);
+    let (user, mut group, mut others) = classes(mode);
     if !owner_kept {
         (group, others) = (group & user, others & user);
     }

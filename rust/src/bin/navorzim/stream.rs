@@ -120,7 +120,7 @@ pub fn each(
     mut work: impl FnMut(&mut [u8], &mut Output) -> Result<(), Failure>,
 ) -> Result<u64, Failure> {
     let mut output = match (target, stream.input.held()) {
-        (Some(target), _) => Output::begin(target, &[kept, &[stream.input.path()]].concat())?,
+        (Some(target), held) => Output::begin(target, kept, held.as_slice())?,
         (None, Some(held)) => Output::File(Box::new(Replacement::in_place(held, kept)?)),
         (None, None) => return Err(trouble("write", stream.input.path(), "standard input can't be replaced")),
     };
