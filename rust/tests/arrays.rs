@@ -853,12 +853,12 @@ fn a_restored_disk_has_the_rights_of_those_that_were_read() {
     }
 }
 
-/// A terminal that the tool writes its standard error to: what it showed there.
-fn at_a_terminal(folder: &Folder, line: &str, command: &str) -> Option<String> {
+/// A terminal that the tool writes its standard error to: its status, and what it showed there.
+fn at_a_terminal(folder: &Folder, line: &str, variable: &str, value: &str) -> Option<String> {
     let lines = format!(
         "import os, pty, subprocess\n\
          reader, terminal = pty.openpty()\n\
-         env = dict(os.environ, LD_PRELOAD='{}', AT_FLUSH='{command}')\n\
+         env = dict(os.environ, LD_PRELOAD='{}', {variable}='{value}')\n\
          child = subprocess.Popen(['{TOOL}'] + '{line}'.split(), stdout=subprocess.DEVNULL, stderr=terminal, env=env)\n\
          os.close(terminal)\n\
          out = b''\n\
@@ -874,8 +874,20 @@ fn at_a_terminal(folder: &Folder, line: &str, command: &str) -> Option<String> {
 fn somebody_at_a_terminal_sees_that_a_disk_is_brought_to_the_disk() {
     let case = Case::liberation(3200);
     case.lose(&[3]);
-    let Some(shown) = at_a_terminal(&case.folder, "restore array", "sleep 2.3") else { return };
+    let Some(shown) = at_a_terminal(&case.folder, "restore array", "AT_FLUSH", "sleep 2.3") else { return };
     assert!(shown.starts_with("0 ") && shown.contains("bringing disk-3 to the disk, 1 s"), "{shown:?}");
     assert!(shown.trim_end().ends_with("\r\x1b[K"), "the line is removed: {shown:?}");
     case.is_whole("at a terminal");
+}
+
+#[test]
+fn somebody_at_a_terminal_sees_how_much_was_read() {
+    let case = Case::liberation(500_000);
+    let length = case.disks[0].len();
+    assert!(length > 100_000);
+    let shown = at_a_terminal(&case.folder, "status array --read", "READ_WAITS", "array/disk-2");
+    let Some(shown) = shown else { return };
+    let line = format!("\r{} of {} bytes, 28 %\x1b[K", 2 * length, 7 * length);
+    assert!(shown.starts_with("0 ") && shown.contains(&line), "{shown:?}");
+    assert!(shown.trim_end().ends_with("\r\x1b[K"), "the line is removed: {shown:?}");
 }

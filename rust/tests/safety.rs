@@ -4,10 +4,12 @@ mod model;
 
 use folder::{sheet, shim, Folder, TOOL};
 use model::random::Random;
+use std::collections::BTreeMap;
 use std::fs::{self, File, Permissions};
 use std::io::Write;
 use std::os::unix::fs::{chown, symlink, MetadataExt, PermissionsExt};
 use std::os::unix::process::ExitStatusExt;
+use std::path::PathBuf;
 use std::process::{Child, Command, Stdio};
 use std::sync::atomic::{AtomicBool, Ordering};
 use std::thread;
@@ -171,8 +173,6 @@ fn a_restored_disk_goes_to_an_owner_and_group_that_all_have() {
     }
 }
 
-#[test]
-fn a_new_version_acts_for_nobody() {
 /// Runs lines of a shell in the folder.
 fn shell(folder: &Folder, lines: &str) {
     let ran = Command::new("sh").args(["-ec", lines]).current_dir(&folder.0).output().expect("sh runs");
@@ -252,6 +252,8 @@ fn nobody_has_another_ones_folder_removed() {
     }
 }
 
+#[test]
+fn a_new_version_acts_for_nobody() {
     let folder = Folder::square();
     for mode in [0o4755, 0o2755, 0o1644, 0o7777] {
         fs::set_permissions(folder.0.join("stripes"), Permissions::from_mode(mode)).expect("set");
@@ -286,8 +288,6 @@ fn a_folder_that_is_exchanged_meanwhile_is_still_the_one_that_was_opened() {
     assert_eq!(folder.temporaries(), 0);
 }
 
-/// Somebody exchanges the folder for a link to another one, over and over, while root restores a disk.
-#[test]
 #[test]
 fn new_files_and_folders_are_made_where_they_were_asked_for() {
     for line in [
@@ -315,6 +315,8 @@ fn new_files_and_folders_are_made_where_they_were_asked_for() {
     assert_eq!((folder.has("empty/array"), folder.temporaries()), (false, 0));
 }
 
+/// Somebody exchanges the folder for a link to another one, over and over, while root restores a disk.
+#[test]
 fn nothing_is_written_to_a_folder_that_a_link_leads_to_meanwhile() {
     let folder = Folder::new();
     plain(&folder, &[b"sum!", b"....", b"sum!"]);
@@ -424,6 +426,65 @@ fn arrays_without_labels_are_still_read() {
     assert_eq!(folder.get("array/disk-0"), b"sum!");
     let folder = morning_and_noon();
     assert!(!folder.done("status noon").contains("version 1"));
+}
+
+/// A description of version 1 is put beside disks with labels, so that nobody compares those; their bytes would be taken for strips.
+#[test]
+fn a_description_without_an_identity_is_not_believed_beside_labels() {
+    let folder = Folder::new();
+    folder.put("code", &sheet(3, 1, 2, &[1, 2, 3]));
+    folder.put("data", b"abcdefgh");
+    folder.done("split code --symbol 1 data -o array");
+    let length = folder.get("array/disk-0").len();
+    let text = String::from_utf8(folder.get("array/array")).expect("text");
+    let kept = text.lines().filter(|line| ["code", "row", "disk"].contains(&line.split(' ').next().unwrap_or("")));
+    let kept: String = kept.map(|line| format!("{line}\n")).collect();
+    let older = format!("navorzim array 1\nsymbol 1\nstripes {length}\nlength {}\n{kept}", 2 * length);
+    folder.put("array/array", older.as_bytes());
+    folder.remove("array/disk-0");
+    let said = |disk: usize| {
+        format!("this is disk {disk} of an array with labels, and `array` is of version 1, which has none\n")
+    };
+    for (line, status) in [("status array", 1), ("join array -o out", 1), ("restore array 0", 1)] {
+        let ran = folder.fails(line, status);
+        assert!([1, 2].iter().all(|&disk| ran.out.contains(&said(disk))), "{line}: {ran:?}");
+    }
+    folder.misused("restore array");
+    // A disk with a label among those without is one of another array, and the array does without it.
+    fs::rename(folder.0.join("array"), folder.0.join("labelled")).expect("renamed");
+    plain(&folder, &[&vec![1; length], &vec![2; length], &vec![3; length]]);
+    folder.put("array/disk-1", &folder.get("labelled/disk-1"));
+    let said_now = folder.done("join array -o out");
+    assert!(said_now.contains(&format!("disk-1 isn't read: {}", said(1))), "{said_now}");
+    assert_eq!(folder.get("out"), [1, 2].repeat(length));
+}
+
+#[test]
+fn whatever_is_cut_off_is_noticed() {
+    let folder = Folder::square();
+    folder.put("data", &[7; 9]);
+    folder.done("split code --symbol 2 data -o array");
+    let (text, disk) = (folder.get("array/array"), folder.get("array/disk-1"));
+    for length in 0..text.len() {
+        folder.put("array/array", &text[..length]);
+        let ran = folder.run("join array -o out");
+        let named = ran.err.contains("can't use array/array: line ");
+        assert!(ran.status == 2 && named && !folder.has("out"), "{length}: {ran:?}");
+    }
+    folder.put("array/array", &text);
+    for length in 0..disk.len() {
+        folder.put("array/disk-1", &disk[..length]);
+        let ran = folder.run("status array");
+        let said = format!("disk-1  it has {length} bytes, not {}\n", disk.len());
+        assert!(ran.status == 1 && ran.out.contains(&said), "{length}: {ran:?}");
+        // Nor is it taken for a label where the description is lost.
+        if length % 16 == 0 {
+            fs::rename(folder.0.join("array/array"), folder.0.join("away")).expect("renamed");
+            let ran = folder.run("status array");
+            assert!(ran.status == 1 && ran.out.contains(&said), "{length}: {ran:?}");
+            fs::rename(folder.0.join("away"), folder.0.join("array/array")).expect("renamed");
+        }
+    }
 }
 
 #[test]
@@ -622,6 +683,27 @@ fn a_disk_that_is_half_dead_is_done_without() {
 }
 
 #[test]
+fn a_label_that_cannot_be_read_names_the_way_out() {
+    let folder = Folder::new();
+    folder.put("code", &model::family("liberation", 5, 5).expect("listed"));
+    // 39 strips of 2,560 bytes, and then the label, with the byte 100,000.
+    let data = Random::new(8).bytes(25 * 512 * 39);
+    folder.put("data", &data);
+    folder.done("split code --symbol 512 data -o array");
+    let half_dead = |line: &str| folder.run_with(line, "READ_FAILS", "array/disk-1");
+    let said = "disk-1  its end can't be read: Input/output error (os error 5); --without 1 does without it\n";
+    let ran = half_dead("status array");
+    assert!(ran.status == 1 && ran.out.contains(said), "{ran:?}");
+    let ran = half_dead("restore array");
+    assert!(ran.status == 2 && ran.err.contains("; --without 1 does without it; move it away"), "{ran:?}");
+    let ran = half_dead("restore array --without 1");
+    let expected = "nothing to restore: all 7 disks are there\n  disk-1: move it away to have it restored\n";
+    assert!(ran.status == 0 && ran.out == expected, "{ran:?}");
+    let ran = half_dead("join array --without 1 -o joined");
+    assert!(ran.status == 0 && folder.get("joined") == data, "{ran:?}");
+}
+
+#[test]
 fn a_monitor_goes_by_the_status() {
     let folder = morning_and_noon();
     folder.fails("status noon", 0);
@@ -706,6 +788,8 @@ fn send(signal: i32, child: &Child) {
 /// What a run that is ended leaves, for each of the commands that write: what was there, or what must be there.
 struct Ended {
     line: &'static str,
+    /// the names that are written
+    written: &'static [&'static str],
     prepare: fn(&Folder),
     /// whether all that there is under the names that are written is as it was, or as it must be
     is_whole: fn(&Folder) -> bool,
@@ -718,11 +802,13 @@ fn old_or(folder: &Folder, name: &str, old: &str, new: &str) -> bool {
 const ENDED: [Ended; 5] = [
     Ended {
         line: "split code --symbol 512 data -o made",
+        written: &["made"],
         prepare: |folder| drop(fs::remove_dir_all(folder.0.join("made"))),
         is_whole: |folder| !folder.has("made") || folder.run("status made").status == 0,
     },
     Ended {
         line: "restore array",
+        written: &["array/disk-0", "array/disk-3"],
         prepare: |folder| {
             [0, 3].iter().for_each(|disk| drop(fs::remove_file(folder.0.join(format!("array/disk-{disk}")))))
         },
@@ -735,16 +821,19 @@ const ENDED: [Ended; 5] = [
     },
     Ended {
         line: "join whole -o out",
+        written: &["out"],
         prepare: |folder| folder.put("out", &folder.get("old")),
         is_whole: |folder| old_or(folder, "out", "old", "data"),
     },
     Ended {
         line: "rebuild code 0,3 plan --symbol 512 out --in-place",
+        written: &["out"],
         prepare: |folder| folder.put("out", &folder.get("ruined")),
         is_whole: |folder| old_or(folder, "out", "ruined", "stripes"),
     },
     Ended {
         line: "encode code --symbol 512 data -o out",
+        written: &["out"],
         prepare: |folder| folder.put("out", &folder.get("old")),
         is_whole: |folder| old_or(folder, "out", "old", "stripes"),
     },
@@ -770,6 +859,16 @@ fn workshop() -> Folder {
     folder
 }
 
+/// Everything in the folder but some names, and temporary files.
+fn all_but(folder: &Folder, names: &[&str]) -> BTreeMap<PathBuf, Vec<u8>> {
+    let mut all = folder.contents();
+    all.retain(|path, _| {
+        let temporary = path.to_string_lossy().contains("/.navorzim-");
+        !temporary && !names.iter().any(|name| path.starts_with(folder.0.join(name)))
+    });
+    all
+}
+
 /// Removes what killed runs have left, which is nothing else: the names are those of temporary files.
 fn remove_temporaries(folder: &Folder) {
     for path in folder.contents().into_keys().filter(|path| path.extension().is_some_and(|end| end == "part")) {
@@ -781,7 +880,7 @@ fn remove_temporaries(folder: &Folder) {
 fn three_hundred_runs_that_are_ended_leave_no_half_file() {
     const KILL: i32 = 9;
     let (folder, mut random) = (workshop(), Random::new(300));
-    for Ended { line, prepare, is_whole } in ENDED {
+    for Ended { line, written, prepare, is_whole } in ENDED {
         let start = || {
             let mut tool = Command::new(TOOL);
             let tool = tool.args(line.split(' ')).current_dir(&folder.0).stdout(Stdio::null()).stderr(Stdio::null());
@@ -793,7 +892,7 @@ fn three_hundred_runs_that_are_ended_leave_no_half_file() {
         let (usual, mut ended) = (began.elapsed(), 0);
         for round in 0..60 {
             prepare(&folder);
-            let signal = [KILL, 15, 2][round % 3];
+            let (before, signal) = (all_but(&folder, written), [KILL, 15, 2][round % 3]);
             let mut child = start();
             thread::sleep(usual.mul_f64(random.below(1100) as f64 / 1000.0));
             send(signal, &child);
@@ -801,6 +900,7 @@ fn three_hundred_runs_that_are_ended_leave_no_half_file() {
             assert!(status.success() || status.signal() == Some(signal), "{line}: {status}");
             ended += usize::from(!status.success());
             assert!(is_whole(&folder), "{line}, signal {signal}: a half file");
+            assert!(all_but(&folder, written) == before, "{line}, signal {signal}: something was lost or left");
             match signal {
                 KILL => remove_temporaries(&folder),
                 _ => assert_eq!(folder.temporaries(), 0, "{line}, signal {signal}: a temporary file"),

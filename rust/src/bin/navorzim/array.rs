@@ -12,8 +12,8 @@ use crate::sheets::{counted, Code};
 use navorzim::Refusal;
 use std::ffi::OsStr;
 use std::fs::{self, File};
-use std::io::{ErrorKind, Read};
-use std::os::unix::fs::{FileExt, MetadataExt};
+use std::io::{self, ErrorKind, Read};
+use std::os::unix::fs::MetadataExt;
 use std::path::Path;
 use std::sync::Arc;
 
@@ -126,12 +126,9 @@ impl Array {
         Label::of(self, disk).map_or(Vec::new(), |label| label.bytes())
     }
 
-    /// Whether a file ends with the label of a disk.
-    pub fn is_labelled(&self, file: &File, disk: usize) -> bool {
-        let label = self.label(disk);
-        let mut found = vec![0; label.len()];
-        let from = file.metadata().map_or(0, |found| found.len().saturating_sub(label.len() as u64));
-        file.read_exact_at(&mut found, from).is_ok() && found == label
+    /// Whether a file is a disk of this array: so long, and with the disk's label, or in version 1 with none.
+    pub fn owns(&self, file: &File, disk: usize) -> io::Result<bool> {
+        Ok(file.metadata()?.len() == self.file_length() && Label::read(file)? == Label::of(self, disk))
     }
 
     /// Bytes of a disk's file, with its label.

@@ -178,7 +178,8 @@ pub fn join(arguments: &mut Arguments) -> Result<String, Failure> {
         true => None,
         false => {
             let wanted = Wanted::Symbols(rising(wanted.iter().map(|&home| home as u64)));
-            Some(checked_plan(&array.code, &lost, &wanted)?.0)
+            let plan = checked_plan(&array.code, &lost, &wanted);
+            Some(plan.map_err(|failure| failure.after(inventory.fault_lines(&array)))?.0)
         }
     };
     let recovery = Recovery::open(&array, &lost, plan.as_ref(), &there)?;
@@ -194,8 +195,7 @@ pub fn join(arguments: &mut Arguments) -> Result<String, Failure> {
     };
     let mut text = format!("wrote {}: {}{rebuilt}\n", printable(&output), counted(array.length, "byte"));
     text.push_str(&caution(&array));
-    let faults = (0..array.code.disks).filter_map(|disk| Some((disk, inventory.fault(&array, disk)?)));
-    text.extend(faults.map(|(disk, fault)| format!("  {} isn't read: {fault}\n", array.name(disk))));
+    text.push_str(&inventory.fault_lines(&array));
     Ok(text)
 }
 

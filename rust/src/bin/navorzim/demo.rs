@@ -186,6 +186,7 @@ impl Demo {
     fn command(&mut self, line: &str) -> Result<(), Failure> {
         self.note(&format!("$ navorzim {line}"));
         let answer = match self.run(line) {
+            // What `status` answers of lost disks.
             Err(Failure::Missing { text }) => text,
             answer => answer?,
         };

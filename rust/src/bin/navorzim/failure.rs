@@ -52,6 +52,14 @@ impl Failure {
         Failure::Refused(Refused { refusal, detail, file })
     }
 
+    /// The same, where there is no plan with lines before the answer: what stands in the disks' places may be why.
+    pub fn after(self, lines: String) -> Failure {
+        match self {
+            Failure::NoPlan { text, what, code } => Failure::NoPlan { text: lines + &text, what, code },
+            failure => failure,
+        }
+    }
+
     /// 1 for a refusal and for disks that can't be rebuilt, 2 for everything that never reached the library, 3 for disks that are
     /// missing and can be rebuilt.
     pub fn status(&self) -> u8 {

@@ -93,9 +93,6 @@ pub enum Links {
     Refused,
 }
 
-/// What is said of a link in the place of an array's file.
-pub const A_LINK: &str = "it is a link; --links takes links, for arrays whose disks lie on several media";
-
 /// What a file is opened for.
 #[derive(Clone, Copy, Debug, PartialEq, Eq)]
 pub enum Purpose {
@@ -193,12 +190,14 @@ impl Held {
 
 /// Opens a file if it is a regular one.
 pub fn open_regular(place: &Place, purpose: Purpose, links: Links) -> Result<File, Failure> {
-    let (named, path) = (place.named(), place.path());
-    let fails = |error: io::Error| trouble(purpose.verb(), named, error);
-    let regular = |found: &Metadata| match kind(found) {
-        None => Ok(()),
-        Some(kind) => Err(trouble(purpose.verb(), named, format!("it is {kind}"))),
-    };
+    open_or_why(place, purpose, links).map_err(|why| trouble(purpose.verb(), place.named(), why))
+}
+
+/// The same; answers why not, for a sentence about the file.
+pub fn open_or_why(place: &Place, purpose: Purpose, links: Links) -> Result<File, String> {
+    let path = place.path();
+    let fails = |error: io::Error| error.to_string();
+    let regular = |found: &Metadata| kind(found).map_or(Ok(()), |kind| Err(format!("it is {kind}")));
     // Before it is opened, since to open a device may move it, and after, since it may have been exchanged; nor is a pipe's
     // other end waited for.
     let (found, flags) = match links {
@@ -298,7 +297,8 @@ pub fn kind(found: &Metadata) -> Option<&'static str> {
     if kind.is_file() {
         None
     } else if kind.is_symlink() {
-        Some(A_LINK.trim_start_matches("it is "))
+        // Nothing but an array's files is looked at without following links.
+        Some("a link; --links takes links, for arrays whose disks lie on several media")
     } else if kind.is_dir() {
         Some("a folder")
     } else if kind.is_fifo() {

@@ -5,7 +5,8 @@
 use crate::array::Array;
 use crate::failure::Failure;
 use crate::files::{trouble, Held, Purpose};
-use crate::inventory::way_out;
+use crate::inventory::{way_out, JUST_CHANGED};
+use std::fmt::Display;
 use std::io::ErrorKind;
 use std::ops::Range;
 use std::os::unix::fs::FileExt;
@@ -70,8 +71,10 @@ impl<'a> Survivors<'a> {
         let disks = of_one_disk.map(|symbols| {
             let disk = code.disk_of(symbols[0]);
             let held = Held::open_at(array.disk(disk), Purpose::Read, array.links)?;
-            if held.length() != array.file_length() || !array.is_labelled(&held.file, disk) {
-                return Err(trouble("use", held.named(), "it has just changed its length or its label"));
+            // The very file that is read from here on, whatever the inventory found under its name.
+            let owned = array.owns(&held.file, disk).map_err(|error| cannot_read(&held, disk, error))?;
+            if !owned {
+                return Err(trouble("use", held.named(), JUST_CHANGED));
             }
             let runs = symbols.chunk_by(|one, next| one + 1 == *next);
             let runs = runs.map(|run| code.row_of(run[0])..code.row_of(run[0]) + run.len()).collect();
@@ -138,9 +141,12 @@ impl Survivor {
             ErrorKind::UnexpectedEof => trouble("use", self.held.named(), "it changed while it was read"),
             _ => {
                 let length = bytes.len();
-                let why = format!("{error}, in the {length} bytes from {from} on; {}", way_out(self.disk));
-                trouble("read", self.held.named(), why)
+                cannot_read(&self.held, self.disk, format!("{error}, in the {length} bytes from {from} on"))
             }
         })
     }
+}
+
+fn cannot_read(held: &Held, disk: usize, why: impl Display) -> Failure {
+    trouble("read", held.named(), format!("{why}; {}", way_out(disk)))
 }

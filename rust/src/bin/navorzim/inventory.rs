@@ -2,8 +2,9 @@
 use crate::array::Array;
 use crate::disks::Disks;
 use crate::failure::{printable, Failure};
-use crate::files::{go_on, kind, open_regular, trouble, Links, Purpose, BUFFER};
+use crate::files::{go_on, kind, open_or_why, open_regular, trouble, Links, Purpose, BUFFER};
 use crate::label::Label;
+use crate::progress::Progress;
 use crate::replacement::is_temporary;
 use navorzim::Refusal;
 use std::collections::HashMap;
@@ -57,7 +58,7 @@ impl Inventory {
                 // Links of both kinds are seen through.
                 Ok(found) => match files.get(&(found.dev(), found.ino())) {
                     Some(&before) => (Found::SameAs(before), (0, 0)),
-                    None => (known(array, disk, &found)?, (found.dev(), found.ino())),
+                    None => (whose(array, disk)?, (found.dev(), found.ino())),
                 },
             };
             if found == Found::There {
@@ -70,12 +71,17 @@ impl Inventory {
 
     /// Reads every byte of every disk that is there, and notes those that can't be read.
     pub fn read_all(&mut self, array: &Array) -> Result<(), Failure> {
-        for disk in 0..self.disks.len() {
-            if self.disks[disk] == Found::There {
-                let file = open_regular(&array.disk(disk), Purpose::Read, array.links)?;
-                if let Some((place, why)) = first_unreadable(&file, array.disk(disk).named())? {
-                    self.disks[disk] = Found::Unreadable(place, why.to_string());
-                }
+        let there: Vec<usize> = (0..self.disks.len()).filter(|&disk| self.disks[disk] == Found::There).collect();
+        let progress = Progress::counting("bytes", Some(array.file_length().saturating_mul(there.len() as u64)));
+        for disk in there {
+            let place = array.disk(disk);
+            let file = open_regular(&place, Purpose::Read, array.links)?;
+            // Where this fails, so does the reading.
+            if array.owns(&file, disk).is_ok_and(|owned| !owned) {
+                return Err(trouble("use", place.named(), JUST_CHANGED));
+            }
+            if let Some((at, why)) = first_unreadable(&file, place.named(), &progress)? {
+                self.disks[disk] = Found::Unreadable(at, why.to_string());
             }
         }
         Ok(())
@@ -105,6 +111,12 @@ impl Inventory {
         }
     }
 
+    /// The disks that aren't read because of what is there in their place, a line each.
+    pub fn fault_lines(&self, array: &Array) -> String {
+        let faults = (0..self.disks.len()).filter_map(|disk| Some((disk, self.fault(array, disk)?)));
+        faults.map(|(disk, fault)| format!("  {} isn't read: {fault}\n", array.name(disk))).collect()
+    }
+
     /// The names that aren't the array's, each with what it is.
     pub fn extra_words(&self) -> Vec<String> {
         let words = |name: &OsString| match is_temporary(name) {
@@ -115,24 +127,32 @@ impl Inventory {
     }
 }
 
+/// What is said of a file that was found to be a disk, and isn't any more when it is opened to be read.
+pub const JUST_CHANGED: &str = "it has just changed its length or its label";
+
 /// What can be done about a disk that is there and can't be read.
 pub fn way_out(disk: usize) -> String {
     format!("--without {disk} does without it")
 }
 
 /// Reads a file to its end; answers the first place that can't be read, to a sector, and why.
-fn first_unreadable(file: &File, named: &Path) -> Result<Option<(u64, io::Error)>, Failure> {
+fn first_unreadable(file: &File, named: &Path, progress: &Progress) -> Result<Option<(u64, io::Error)>, Failure> {
     const SECTOR: usize = 512;
     let length = file.metadata().map_err(|error| trouble("read", named, error))?.len();
-    let (mut piece, mut place, mut step) = (vec![0; BUFFER], 0, BUFFER);
+    // Sector by sector up to `doubtful`, where more at once couldn't be read.
+    let (mut piece, mut place, mut doubtful) = (vec![0; BUFFER], 0, 0);
     while place < length {
         go_on("read", named)?;
+        let step = if place < doubtful { SECTOR } else { BUFFER };
         match file.read_at(&mut piece[..step], place) {
             Ok(0) => return Err(trouble("use", named, "it changed while it was read")),
-            Ok(read) => place += read as u64,
+            Ok(read) => {
+                place += read as u64;
+                progress.advance(read as u64);
+            }
             Err(error) if error.kind() == ErrorKind::Interrupted => {}
-            Err(error) if step == SECTOR => return Ok(Some((place, error))),
-            Err(_) => step = SECTOR,
+            Err(error) if place < doubtful => return Ok(Some((place, error))),
+            Err(_) => doubtful = place + BUFFER as u64,
         }
     }
     Ok(None)
@@ -158,48 +178,50 @@ fn look(array: &Array, disk: usize) -> Result<Metadata, Found> {
     }
 }
 
-/// Whose file it is, by its label. Nobody is asked for a lock: what is read later is compared again then.
-fn known(array: &Array, disk: usize, found: &Metadata) -> Result<Found, Failure> {
-    let by_length = match found.len() == array.file_length() {
-        true => Found::There,
-        false => Found::Length(found.len()),
+/// Whose the regular file in a disk's place is, by its label. Nobody is asked for a lock: what is read later is compared again then.
+fn whose(array: &Array, disk: usize) -> Result<Found, Failure> {
+    let unfit = |why: String| Ok(Found::Unfit(format!("{why}; {}", way_out(disk))));
+    let file = match open_or_why(&array.disk(disk), Purpose::Read, array.links) {
+        Ok(file) => file,
+        Err(why) => return unfit(format!("it can't be opened: {why}")),
     };
-    if array.birth.is_none() {
-        return Ok(by_length);
-    }
-    let Ok(file) = open_regular(&array.disk(disk), Purpose::Read, array.links) else {
-        let why = format!("it can't be opened for reading; {}", way_out(disk));
-        return Ok(Found::Unfit(why));
+    let (length, label) = match file.metadata().and_then(|found| Ok((found.len(), Label::read(&file)?))) {
+        Ok(read) => read,
+        Err(error) => return unfit(format!("its end can't be read: {error}")),
     };
-    match array.is_labelled(&file, disk) {
-        true => Ok(by_length),
-        false => Ok(stranger(array, disk, &file)?.unwrap_or(match by_length {
-            Found::There => Found::Stranger("it has no label, or a damaged one: whose it is isn't known".to_string()),
-            other => other,
-        })),
+    match label {
+        label if label == Label::of(array, disk) && length == array.file_length() => Ok(Found::There),
+        Some(label) if Label::of(array, disk).as_ref() != Some(&label) => stranger(array, disk, &label),
+        _ if length != array.file_length() => Ok(Found::Length(length)),
+        _ => Ok(Found::Stranger(NO_LABEL.to_string())),
     }
 }
 
-/// What the label of a file says that isn't the disk's; none where it says nothing. Of an array that has the same identity and another
-/// description nothing can be believed.
-fn stranger(array: &Array, disk: usize, file: &File) -> Result<Option<Found>, Failure> {
-    let Ok(Some(label)) = Label::read(file) else { return Ok(None) };
-    let path = array.disk(disk);
-    let Ok(other) = Array::read(&array.folder, array.links, path.named(), &label.text) else { return Ok(None) };
-    let number = label.disk;
-    if other.birth.map(|birth| birth.identity) != array.birth.as_ref().map(|birth| birth.identity) {
-        return Ok(Some(Found::Stranger(format!("this is disk {number} of another array"))));
+/// What is said of a file of the right length without a label.
+const NO_LABEL: &str = "it has no label, or a damaged one: whose it is isn't known";
+
+/// What a label says that isn't the disk's. Of an array that has the same identity and another description nothing can be believed.
+fn stranger(array: &Array, disk: usize, label: &Label) -> Result<Found, Failure> {
+    let (path, number) = (array.disk(disk), label.disk);
+    let is = |what: String| Ok(Found::Stranger(format!("this is disk {number} of {what}")));
+    let Some(birth) = &array.birth else {
+        return is("an array with labels, and `array` is of version 1, which has none".to_string());
+    };
+    let Ok(other) = Array::read(&array.folder, array.links, path.named(), &label.text) else {
+        return Ok(Found::Stranger(NO_LABEL.to_string()));
+    };
+    if other.birth.map(|other| other.identity) != Some(birth.identity) {
+        return is("another array".to_string());
     }
-    if label.text != array.text().into_bytes() {
-        let (here, there) = (array.text(), String::from_utf8_lossy(&label.text).to_string());
-        let differs = here.lines().zip(there.lines()).enumerate().find(|(_, (here, there))| here != there);
-        let what = differs.map_or("one is longer".to_string(), |(line, (here, there))| {
-            format!("line {} is '{here}' in `array`, and '{there}' in the label", line + 1)
-        });
-        return Err(trouble("use", path.named(), format!("its label and `array` disagree: {what}")));
+    if label.text == array.text().into_bytes() {
+        return is(format!("this array, under the name {}", array.name(disk)));
     }
-    let name = array.name(disk);
-    Ok(Some(Found::Stranger(format!("this is disk {number} of this array, under the name {name}"))))
+    let (here, there) = (array.text(), String::from_utf8_lossy(&label.text).to_string());
+    let differs = here.lines().zip(there.lines()).enumerate().find(|(_, (here, there))| here != there);
+    let what = differs.map_or("one is longer".to_string(), |(line, (here, there))| {
+        format!("line {} is '{here}' in `array`, and '{there}' in the label", line + 1)
+    });
+    Err(trouble("use", path.named(), format!("its label and `array` disagree: {what}")))
 }
 
 fn extra(array: &Array) -> Result<Vec<OsString>, Failure> {

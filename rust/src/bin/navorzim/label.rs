@@ -42,7 +42,7 @@ impl Label {
         bytes
     }
 
-    /// The label at the end of a file, if there is one and it isn't damaged.
+    /// The label at the end of a file, if there is one and it isn't damaged. Whose disk a file is, is decided by this alone.
     pub fn read(file: &File) -> io::Result<Option<Label>> {
         let length = file.metadata()?.len();
         let Some(before_line) = length.checked_sub(LAST_LINE as u64) else { return Ok(None) };

@@ -56,9 +56,10 @@ fn holders(file: &File) -> String {
         // A number, the kind, how strict, for what, the process and the file; who waits has an arrow.
         if let [_, "FLOCK", _, _, process, number, ..] = words[..] {
             if number == name {
-                let program = fs::read_to_string(format!("/proc/{process}/comm")).unwrap_or_default();
-                let program = printable(Path::new(program.trim_end()));
-                whose.push(format!("process {process} ({program})"));
+                // Whoever took it may have ended, and left it to a process that it started.
+                let program = fs::read_to_string(format!("/proc/{process}/comm"));
+                let program = program.map(|name| format!(" ({})", printable(Path::new(name.trim_end()))));
+                whose.push(format!("process {process}{}", program.unwrap_or_default()));
             }
         }
     }

@@ -9,7 +9,7 @@ use std::time::{Duration, Instant};
 const FIRST: Duration = Duration::from_secs(1);
 const NEXT: Duration = Duration::from_millis(200);
 
-/// Stripes that are worked on. Somebody at a terminal sees how many are done, and then what is brought to the disk: a thread of its
+/// Stripes that are worked on, or bytes. Somebody at a terminal sees how many are done, and then what is brought to the disk: a thread of its
 /// own writes the line, so that it goes on while the system is waited for.
 pub struct Progress {
     shared: Arc<Shared>,
@@ -17,8 +17,10 @@ pub struct Progress {
 }
 
 struct Shared {
+    /// what is counted
+    things: &'static str,
     done: AtomicU64,
-    /// none where nobody knows how many stripes come
+    /// none where nobody knows how many come
     all: Option<u64>,
     state: Mutex<State>,
     changed: Condvar,
@@ -31,9 +33,14 @@ struct State {
 }
 
 impl Progress {
+    /// Stripes.
     pub fn new(all: Option<u64>) -> Progress {
+        Progress::counting("stripes", all)
+    }
+
+    pub fn counting(things: &'static str, all: Option<u64>) -> Progress {
         let state = Mutex::new(State { flushing: None, ended: false });
-        let shared = Arc::new(Shared { done: AtomicU64::new(0), all, state, changed: Condvar::new() });
+        let shared = Arc::new(Shared { things, done: AtomicU64::new(0), all, state, changed: Condvar::new() });
         let watched = stderr().is_terminal();
         let writer = watched.then(|| {
             let shared = Arc::clone(&shared);
@@ -42,9 +49,9 @@ impl Progress {
         Progress { shared, writer }
     }
 
-    /// So many more stripes are done.
-    pub fn advance(&self, stripes: u64) {
-        self.shared.done.fetch_add(stripes, Ordering::Relaxed);
+    /// So many more are done.
+    pub fn advance(&self, more: u64) {
+        self.shared.done.fetch_add(more, Ordering::Relaxed);
     }
 
     /// From now on this is brought to the disk.
@@ -79,12 +86,12 @@ impl Shared {
         if let Some((what, since)) = &state.flushing {
             return format!("bringing {what} to the disk, {} s", since.elapsed().as_secs());
         }
-        let done = self.done.load(Ordering::Relaxed);
+        let (done, things) = (self.done.load(Ordering::Relaxed), self.things);
         match self.all {
             Some(all) => {
-                format!("{done} of {all} stripes, {} %", u128::from(done) * 100 / u128::from(all.max(1)))
+                format!("{done} of {all} {things}, {} %", u128::from(done) * 100 / u128::from(all.max(1)))
             }
-            None => format!("{done} stripes"),
+            None => format!("{done} {things}"),
         }
     }
 }

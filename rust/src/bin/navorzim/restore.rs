@@ -33,12 +33,13 @@ pub fn run(arguments: &mut Arguments) -> Result<String, Failure> {
     let inventory = Inventory::take(&array, &without)?;
     let targets = targets(&array, &inventory, asked)?;
     let mut text = match targets.count() {
-        0 => format!("nothing to restore: all {} are there\n", counted(array.code.disks, "disk")),
+        0 => nothing_missing(&array, &inventory),
         _ => {
             let lost = inventory.lost();
             let plan = match given {
                 Some(given) => given_plan(&array.code, &lost, &targets, &given)?,
-                None => plan_for(&array.code, &lost, &targets)?,
+                None => plan_for(&array.code, &lost, &targets)
+                    .map_err(|failure| failure.after(inventory.fault_lines(&array)))?,
             };
             match dry_run {
                 true => would_write(&array, &lost, &targets, &plan),
@@ -50,6 +51,14 @@ pub fn run(arguments: &mut Arguments) -> Result<String, Failure> {
         text.push_str(&describe(&array, &inventory, dry_run)?);
     }
     Ok(text)
+}
+
+/// Why there is nothing to do. Disks to do without aren't missing.
+fn nothing_missing(array: &Array, inventory: &Inventory) -> String {
+    let text = format!("nothing to restore: all {} are there\n", counted(array.code.disks, "disk"));
+    let lines = (0..array.code.disks).filter(|&disk| inventory.disks[disk] == Found::SetAside);
+    let lines = lines.map(|disk| format!("  {}: move it away to have it restored\n", array.name(disk)));
+    lines.fold(text, |text, line| text + &line)
 }
 
 /// What would be read and written.
