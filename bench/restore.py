@@ -1,35 +1,38 @@
 """`restore` of a disk against `rebuild` of the same stripes in one file, on an array of 1 GB in memory. Prints a table of docs/PERFORMANCE.md.
 
     python3 bench/restore.py [TOOL]
+    python3 bench/restore.py --against OTHER [TOOL]
 
-Without TOOL it is built: cargo build --offline --release. The two run in turn, and medians are printed. Needs 4 GB of room in /dev/shm.
+Without TOOL it is built: cargo build --offline --release. The two run in turn, and medians are printed. With --against, `split`, `restore` and
+`join` of TOOL are held against those of OTHER, a build of another version, each on an array of its own. Needs 5 GB of room in /dev/shm.
 """
+import argparse
 import os
 import shutil
 import statistics
 import subprocess
-import sys
 import tempfile
 import time
 
 ROOT = os.path.dirname(os.path.dirname(os.path.abspath(__file__)))
 BYTES = 1 << 30
 ROUNDS = 9
+SIZES = (64, 4096, 65536)
 # Liberation, w 5, k 5: n, r, K and N.
 DISKS, ROWS, DATA, SYMBOLS = 7, 5, 25, 35
 
 
-def tool() -> str:
-    if len(sys.argv) > 1:
-        return os.path.abspath(sys.argv[1])
+def tool(given: str | None) -> str:
+    if given:
+        return os.path.abspath(given)
     subprocess.run(["cargo", "build", "--offline", "--release", "--quiet"], cwd=os.path.join(ROOT, "rust"), check=True)
     return os.path.join(ROOT, "rust/target/release/navorzim")
 
 
-def run(*words: str) -> tuple[float, float]:
-    """Runs the tool; answers seconds by the clock and seconds of processor time."""
+def run(*words: str, program: str = "") -> tuple[float, float]:
+    """Runs the tool, or another program; answers seconds by the clock and seconds of processor time."""
     began = time.perf_counter()
-    child = subprocess.Popen([TOOL, *words], stdout=subprocess.DEVNULL)
+    child = subprocess.Popen([program or TOOL, *words], stdout=subprocess.DEVNULL)
     _, status, used = os.wait4(child.pid, 0)
     child.returncode = os.waitstatus_to_exitcode(status)
     assert child.returncode == 0, words
@@ -88,11 +91,32 @@ def measure(size: int) -> None:
     without("out", "stripes", "data")
 
 
-TOOL = tool()
-room = tempfile.mkdtemp(prefix="navorzim-", dir="/dev/shm")
-try:
-    os.chdir(room)
-    run("family", "liberation", "5", "5", "-o", "code")
+def compare(size: int, other: str) -> None:
+    """The lines of the table of two builds for symbols of a length."""
+    stripes = BYTES // (SYMBOLS * size)
+    with open("data", "wb") as file:
+        subprocess.run(["head", "-c", str(stripes * DATA * size), "/dev/urandom"], stdout=file, check=True)
+    sides = ((other, "before"), (TOOL, "now"))
+    times = {}
+    for turn in range(ROUNDS):
+        # Whoever comes first finds other memory free.
+        for program, array in sides if turn % 2 else sides[::-1]:
+            shutil.rmtree(array, ignore_errors=True)
+            without("out")
+            lines = {"split": ("split", "code", "--symbol", str(size), "data", "-o", array), "join": ("join", array, "-o", "out"), "restore": ("restore", array)}
+            for command, line in lines.items():
+                without(*[f"{array}/disk-0"] * (command == "restore"))
+                times.setdefault((command, array), []).append(run(*line, program=program))
+    for command in ("split", "restore", "join"):
+        before, now = ([statistics.median(part) for part in zip(*times[command, array])] for _, array in sides)
+        both = " | ".join(f"{clock:.2f} s, {processor:.2f} s" for clock, processor in (before, now))
+        print(f"| `{command}` | {size} | {both} | {now[0] / before[0]:.2f}, {now[1] / before[1]:.2f} |", flush=True)
+    for _, array in sides:
+        shutil.rmtree(array)
+    without("out", "data")
+
+
+def compare_with_rebuild() -> None:
     run("plan", "code", "0", "-o", "planned")
     with open("code", "rb") as file:
         plan = twenty_reads(file.read())
@@ -100,8 +124,30 @@ try:
         file.write(plan)
     print("| L | symbols read | bytes read | `rebuild`: by the clock, processor | `restore`: by the clock, processor | ratio by the clock | memory of `restore` |")
     print("|---|---|---|---|---|---|---|")
-    for size in (64, 4096, 65536):
+    for size in SIZES:
         measure(size)
+
+
+def compare_builds(other: str) -> None:
+    print("| command | L | before: by the clock, processor | now: by the clock, processor | ratios |")
+    print("|---|---|---|---|---|")
+    for size in SIZES:
+        compare(size, other)
+
+
+parser = argparse.ArgumentParser()
+parser.add_argument("--against", metavar="OTHER")
+parser.add_argument("tool", nargs="?")
+given = parser.parse_args()
+TOOL, OTHER = tool(given.tool), given.against and os.path.abspath(given.against)
+room = tempfile.mkdtemp(prefix="navorzim-", dir="/dev/shm")
+try:
+    os.chdir(room)
+    run("family", "liberation", "5", "5", "-o", "code")
+    if OTHER:
+        compare_builds(OTHER)
+    else:
+        compare_with_rebuild()
 finally:
     os.chdir("/")
     shutil.rmtree(room)
