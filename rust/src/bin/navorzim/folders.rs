@@ -11,6 +11,9 @@ use std::os::unix::fs::{MetadataExt, OpenOptionsExt, PermissionsExt};
 use std::path::{Path, PathBuf};
 use std::sync::Arc;
 
+/// In a folder: the files that are made there get its group.
+const SETGID: u32 = 0o2000;
+
 /// Makes a folder, or takes an empty one; answers whether it was made. What killed runs have left there doesn't count.
 pub fn make_or_take(path: &Path) -> Result<bool, Failure> {
     match fs::create_dir(path) {
@@ -100,9 +103,6 @@ impl NewFolder {
         synced.map_err(|error| trouble("bring to the disk the folder of", self.target.named(), error))
     }
 }
-
-/// Where files get the folder's group.
-const SETGID: u32 = 0o2000;
 
 /// Gives a new folder owner, group and attributes of an old one, since the files that are made in it go by them, and answers the
 /// permissions that it is to have. Without an old one these are what any program gives a new folder.

@@ -24,19 +24,17 @@ pub fn limit(file: &File, sources: &[File]) -> io::Result<()> {
     let now = file.metadata()?;
     let own = attribute(file, LIST)?;
     let lists = sources.iter().map(|source| attribute(source, LIST)).collect::<io::Result<Vec<_>>>()?;
-    let shared = match lists.iter().all(|list| *list == own) {
-        true => 0o777,
-        false => {
-            remove_attribute(file, LIST)?;
-            // With a list the group's bits are those of the list, and without one of theirs nobody knows whom it shut out.
-            if lists.iter().all(Option::is_none) {
-                0o707
-            } else {
-                0o700
-            }
-        }
+    let kept = match (lists.iter().all(|list| *list == own), lists.iter().all(Option::is_none)) {
+        (true, _) => 0o777,
+        // The group's bits are those of the folder's list, which goes.
+        (false, true) => 0o707,
+        // Nobody knows whom the list of a source shuts out.
+        (false, false) => 0o700,
     };
-    let mut mode = now.mode() & shared;
+    if kept != 0o777 {
+        remove_attribute(file, LIST)?;
+    }
+    let mut mode = now.mode() & kept;
     for source in sources {
         mode &= 0o700 | rights_to(&source.metadata()?, &now);
     }
