@@ -108,9 +108,10 @@ def compare(size: int, other: str) -> None:
                 without(*[f"{array}/disk-0"] * (command == "restore"))
                 times.setdefault((command, array), []).append(run(*line, program=program))
     for command in ("split", "restore", "join"):
-        before, now = ([statistics.median(part) for part in zip(*times[command, array])] for _, array in sides)
-        both = " | ".join(f"{clock:.2f} s, {processor:.2f} s" for clock, processor in (before, now))
-        print(f"| `{command}` | {size} | {both} | {now[0] / before[0]:.2f}, {now[1] / before[1]:.2f} |", flush=True)
+        # The least too: beside other work a median says how much of that there was.
+        before, now = ([f(part) for part in zip(*times[command, array]) for f in (statistics.median, min)] for _, array in sides)
+        both = " | ".join(", ".join(f"{seconds:.2f}" for seconds in side) for side in (before, now))
+        print(f"| `{command}` | {size} | {both} | {', '.join(f'{b / a:.2f}' for a, b in zip(before, now))} |", flush=True)
     for _, array in sides:
         shutil.rmtree(array)
     without("out", "data")
@@ -129,7 +130,7 @@ def compare_with_rebuild() -> None:
 
 
 def compare_builds(other: str) -> None:
-    print("| command | L | before: by the clock, processor | now: by the clock, processor | ratios |")
+    print("| command | L | before, s: by the clock (median, least), processor (median, least) | now, s | ratios |")
     print("|---|---|---|---|---|")
     for size in SIZES:
         compare(size, other)
