@@ -889,16 +889,21 @@ fn three_hundred_runs_that_are_ended_leave_no_half_file() {
         prepare(&folder);
         let began = Instant::now();
         assert!(start().wait().expect("it ends").success(), "{line}");
-        let (usual, mut ended) = (began.elapsed(), 0);
-        for round in 0..60 {
+        let (mut usual, mut runs, mut ended) = (began.elapsed(), 0, 0);
+        // Those that were done before their signal came are judged too, but not counted.
+        while ended < 60 {
+            runs += 1;
+            assert!(runs <= 600, "{line}: {ended} of {runs} ended in time");
             prepare(&folder);
-            let (before, signal) = (all_but(&folder, written), [KILL, 15, 2][round % 3]);
+            let (before, signal) = (all_but(&folder, written), [KILL, 15, 2][ended % 3]);
             let mut child = start();
             thread::sleep(usual.mul_f64(random.below(1100) as f64 / 1000.0));
             send(signal, &child);
             let status = child.wait().expect("it ends");
             assert!(status.success() || status.signal() == Some(signal), "{line}: {status}");
             ended += usize::from(!status.success());
+            // A machine that has more or less to do than before is followed.
+            usual = usual.mul_f64(if status.success() { 0.93 } else { 1.03 });
             assert!(is_whole(&folder), "{line}, signal {signal}: a half file");
             assert!(all_but(&folder, written) == before, "{line}, signal {signal}: something was lost or left");
             match signal {
@@ -906,8 +911,7 @@ fn three_hundred_runs_that_are_ended_leave_no_half_file() {
                 _ => assert_eq!(folder.temporaries(), 0, "{line}, signal {signal}: a temporary file"),
             }
         }
-        println!("{line}: {ended} of 60 ended in time");
-        assert!(ended >= 5, "{line}: {ended} of 60 ended in time");
+        println!("{line}: {ended} of {runs} ended in time");
         prepare(&folder);
         folder.done(line);
         assert_eq!(folder.temporaries(), 0, "{line}");
