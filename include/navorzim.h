@@ -128,6 +128,23 @@
 #include <stddef.h>
 #include <stdint.h>
 
+/* The version of this header and of the library that it came with. Before 1.0.0 a change of the second number may change a call. */
+#define NAVORZIM_VERSION_MAJOR 0
+#define NAVORZIM_VERSION_MINOR 1
+#define NAVORZIM_VERSION_PATCH 0
+#define NAVORZIM_VERSION "0.1.0"
+
+/* Every answer may be a refusal, so a compiler warns where one is thrown away. */
+#if defined(__cplusplus) && __cplusplus >= 201703L
+#define NAVORZIM_ANSWER [[nodiscard]]
+#elif defined(__STDC_VERSION__) && __STDC_VERSION__ >= 202311L
+#define NAVORZIM_ANSWER [[nodiscard]]
+#elif defined(__GNUC__)
+#define NAVORZIM_ANSWER __attribute__((warn_unused_result))
+#else
+#define NAVORZIM_ANSWER
+#endif
+
 #ifdef __cplusplus
 extern "C" {
 #endif
@@ -177,27 +194,33 @@ typedef struct {
  * Refusals: 36, 37. */
 
 /* One parity disk, the XOR of the data disks. data_disks is 1 to 63, rows is 1 to 32, and N = (data_disks + 1) * rows is at most 64. */
+NAVORZIM_ANSWER
 navorzim_sheet navorzim_single_parity(uint64_t data_disks, uint64_t rows, uint8_t *buffer, size_t buffer_length);
 
 /* Liberation (Plank): w is 3, 5 or 7, data_disks 2 to w; r = w, two parity disks. */
+NAVORZIM_ANSWER
 navorzim_sheet navorzim_liberation(uint64_t w, uint64_t data_disks, uint8_t *buffer, size_t buffer_length);
 
 /* Row-diagonal parity (Corbett and others): p is 3, 5 or 7; p - 1 data disks, r = p - 1, two parity disks. The diagonals go over the data
  * disks and the row parity disk. Sheets from before that was corrected, with P left out of the diagonals, are codes like any other. */
+NAVORZIM_ANSWER
 navorzim_sheet navorzim_row_diagonal(uint64_t p, uint8_t *buffer, size_t buffer_length);
 
 /* EVENODD (Blaum, Brady, Bruck and Menon): p is 3, 5 or 7; p data disks, r = p - 1, two parity disks. */
+NAVORZIM_ANSWER
 navorzim_sheet navorzim_evenodd(uint64_t p, uint8_t *buffer, size_t buffer_length);
 
 
 /* ---------------------------------------------------------------------------------------------------------------------------------
  * Read a code sheet: is it good, and what are its n, r, K and N? With them a caller knows how long the other buffers must be. Writes nothing.
  * Refusals: the code sheet's. */
+NAVORZIM_ANSWER
 navorzim_code navorzim_read_code(const uint8_t *sheet, size_t sheet_length);
 
 /* ---------------------------------------------------------------------------------------------------------------------------------
  * Encode: writes the whole stripe, N * L bytes, from the K data symbols; the data stay as they are.
  * Refusals: the code sheet's, 31, 33, 32. */
+NAVORZIM_ANSWER
 navorzim_verdict navorzim_encode(const uint8_t *sheet, size_t sheet_length, uint64_t size, const uint8_t *contents, size_t contents_length,
                                  uint8_t *stripe, size_t stripe_length);
 
@@ -206,11 +229,13 @@ navorzim_verdict navorzim_encode(const uint8_t *sheet, size_t sheet_length, uint
  * valid stripe, whatever the lost strip holds, from surviving symbols and wanted places that it has filled itself, writes no other place,
  * and states the number of symbols that it reads. Plan sheets of all editions are taken. Writes nothing.
  * Refusals: the code sheet's, 7, the plan sheet's. */
+NAVORZIM_ANSWER
 navorzim_checked navorzim_check(const uint8_t *sheet, size_t sheet_length, uint64_t disk, const uint8_t *plan, size_t plan_length);
 
 /* Check for a list of failed disks: is this plan right for this code when all of these disks have failed? As navorzim_check, which asks
  * about the list of its one disk. A plan for other disks, some of these or more than these, is refused (16).
  * Refusals: the code sheet's, 7, 24, the plan sheet's. */
+NAVORZIM_ANSWER
 navorzim_checked navorzim_check_disks(const uint8_t *sheet, size_t sheet_length, const uint8_t *disks, size_t disks_length,
                                       const uint8_t *plan, size_t plan_length);
 
@@ -222,6 +247,7 @@ navorzim_checked navorzim_check_disks(const uint8_t *sheet, size_t sheet_length,
  * If it can't, by any plan of any length, nothing is written and a pattern is answered: K bits, not all 0. The stripe of the data in which
  * the symbols of the set bits are 01 bytes and the others 0 is 0 on every surviving disk and not 0 on the lost one.
  * Refusals: the code sheet's, 7, 34. */
+NAVORZIM_ANSWER
 navorzim_planned navorzim_plan(const uint8_t *sheet, size_t sheet_length, uint64_t disk, uint8_t *buffer, size_t buffer_length);
 
 /* Plan for some symbols: how can the wanted symbols of this disk, and no others, be rebuilt? That may be possible where the whole disk is
@@ -232,6 +258,7 @@ navorzim_planned navorzim_plan(const uint8_t *sheet, size_t sheet_length, uint64
  * If it can't, by any plan of any length, nothing is written and a pattern is answered: K bits, not all 0. The stripe of the data in which
  * the symbols of the set bits are 01 bytes and the others 0 is 0 on every surviving disk and not 0 in some wanted symbol.
  * Refusals: the code sheet's, 7, 23, 34. */
+NAVORZIM_ANSWER
 navorzim_planned navorzim_plan_wanted(const uint8_t *sheet, size_t sheet_length, uint64_t disk, const uint8_t *wanted, size_t wanted_length,
                                       uint8_t *buffer, size_t buffer_length);
 
@@ -245,6 +272,7 @@ navorzim_planned navorzim_plan_wanted(const uint8_t *sheet, size_t sheet_length,
  * If it can't, by any plan of any length, nothing is written and a pattern is answered: K bits, not all 0. The stripe of the data in which
  * the symbols of the set bits are 01 bytes and the others 0 is 0 on every surviving disk and not 0 in some wanted symbol.
  * Refusals: the code sheet's, 7, 24, 23, 34. */
+NAVORZIM_ANSWER
 navorzim_planned navorzim_plan_disks(const uint8_t *sheet, size_t sheet_length, const uint8_t *disks, size_t disks_length,
                                      const uint8_t *wanted, size_t wanted_length, uint8_t *buffer, size_t buffer_length);
 
@@ -253,12 +281,14 @@ navorzim_planned navorzim_plan_disks(const uint8_t *sheet, size_t sheet_length, 
  * also those of lost symbols that aren't wanted. A plan of edition 1 wants the whole disk: the r * L bytes from byte disk * r * L on. Of a
  * valid stripe with its wanted symbols ruined it makes that stripe again. What is written never depends on what the lost strip held.
  * Refusals: those of navorzim_check, 31, 32. */
+NAVORZIM_ANSWER
 navorzim_verdict navorzim_rebuild(const uint8_t *sheet, size_t sheet_length, uint64_t disk, const uint8_t *plan, size_t plan_length,
                                   uint64_t size, uint8_t *stripe, size_t stripe_length);
 
 /* Rebuild for a list of failed disks: as navorzim_rebuild, which is asked about the list of its one disk. A plan of edition 3 that lists no
  * wanted symbols writes the strips of all these disks. What is written never depends on what any lost strip held.
  * Refusals: those of navorzim_check_disks, 31, 32. */
+NAVORZIM_ANSWER
 navorzim_verdict navorzim_rebuild_disks(const uint8_t *sheet, size_t sheet_length, const uint8_t *disks, size_t disks_length,
                                         const uint8_t *plan, size_t plan_length, uint64_t size, uint8_t *stripe, size_t stripe_length);
 
@@ -266,8 +296,10 @@ navorzim_verdict navorzim_rebuild_disks(const uint8_t *sheet, size_t sheet_lengt
  * One strip: where the r * L bytes of a disk stand in the stripe (slice 0). Reads the sheet alone; writes nothing. Where it refuses, the
  * answer is 0, 0, 0, and the verdict of the same arguments says why; where it doesn't, that verdict is 0, 0.
  * Refusals: the code sheet's, 7, 31, 32. */
+NAVORZIM_ANSWER
 navorzim_part navorzim_strip(const uint8_t *sheet, size_t sheet_length, uint64_t disk, uint64_t size, const uint8_t *stripe,
                              size_t stripe_length);
+NAVORZIM_ANSWER
 navorzim_verdict navorzim_strip_verdict(const uint8_t *sheet, size_t sheet_length, uint64_t disk, uint64_t size, const uint8_t *stripe,
                                         size_t stripe_length);
 
@@ -275,10 +307,52 @@ navorzim_verdict navorzim_strip_verdict(const uint8_t *sheet, size_t sheet_lengt
  * Look up: where the L bytes of a symbol stand while `disk` is away and its strip is on a spare: a symbol that survives in the stripe
  * (slice 0), a lost one in the spare strip (slice 1). Reads the sheet alone; writes nothing. A refusal is as with one strip.
  * Refusals: the code sheet's, 7, 31, 32, 35, 38. */
+NAVORZIM_ANSWER
 navorzim_part navorzim_look_up(const uint8_t *sheet, size_t sheet_length, uint64_t disk, uint64_t size, const uint8_t *stripe,
                                size_t stripe_length, const uint8_t *spare, size_t spare_length, uint64_t symbol);
+NAVORZIM_ANSWER
 navorzim_verdict navorzim_look_up_verdict(const uint8_t *sheet, size_t sheet_length, uint64_t disk, uint64_t size, const uint8_t *stripe,
                                           size_t stripe_length, const uint8_t *spare, size_t spare_length, uint64_t symbol);
+
+
+/* ---------------------------------------------------------------------------------------------------------------------------------
+ * The sentence of a refusal's number, for a message; never NULL. What the place says is in the table above. */
+static inline const char *navorzim_reason(uint64_t number) {
+    switch (number) {
+    case 0: return "nothing was refused";
+    case 1: return "the code sheet is too short";
+    case 2: return "the code sheet is too long";
+    case 3: return "a count of the code sheet is wrong: the first byte must be 4, byte 5 must be n * r";
+    case 4: return "the code sheet's edition isn't 1";
+    case 5: return "the code is beyond a limit: n is 2 to 64, r 1 to 32, n * r at most 64, K 1 to 64";
+    case 6: return "a row of the code has a bit set that is not below K";
+    case 7: return "the array has no such disk";
+    case 11: return "the plan sheet is too short";
+    case 12: return "the plan sheet is too long";
+    case 13: return "a count of the plan sheet is wrong: the first byte must be 6 or 5, and there are at most 1,024 steps";
+    case 14: return "the plan sheet's edition isn't 1 or 2 with first byte 6, or 3 with first byte 5";
+    case 15: return "the plan was made for another layout: its n, r or K isn't the code's";
+    case 16: return "the plan was made for another disk, or for other disks";
+    case 17: return "a step is malformed";
+    case 18: return "the target of a step isn't a wanted symbol";
+    case 19: return "a step uses a lost place that no earlier step has filled";
+    case 20: return "a wanted symbol is never filled";
+    case 21: return "a wanted symbol ends wrong";
+    case 22: return "the plan's read count is wrong";
+    case 23: return "the list of wanted symbols is empty or too long, or an entry doesn't rise or isn't on a failed disk";
+    case 24: return "the list of failed disks is empty or too long, or an entry doesn't rise";
+    case 25: return "a step copies or adds a symbol onto itself";
+    case 31: return "a symbol is 1 to 65,536 bytes long";
+    case 32: return "the stripe isn't N symbols long";
+    case 33: return "the data isn't K symbols long";
+    case 34: return "a plan needs a buffer of 3,081 bytes or more, 3,114 with wanted symbols, 3,210 for a list of disks";
+    case 35: return "the spare strip isn't r symbols long";
+    case 36: return "the family has no code with these parameters";
+    case 37: return "the buffer is shorter than the code sheet";
+    case 38: return "the array has no such symbol";
+    default: return "a refusal that this header has no sentence for";
+    }
+}
 
 #ifdef __cplusplus
 }

@@ -375,6 +375,18 @@ mod tests {
         }
     }
 
+    /// The header for C has the same sentences, in letters that every terminal has; one without a place where there is one here.
+    #[test]
+    fn the_header_says_the_same() {
+        let header = include_str!("../../include/navorzim.h");
+        for refusal in of_the_header().into_iter().filter_map(|number| given(number, 0)) {
+            let said = format!("case {}: return \"", refusal.number());
+            let said = header.split(&said).nth(1).and_then(|rest| rest.split("\";").next()).expect("a sentence");
+            let here = refusal.sentence().replace('×', "*");
+            assert!(here.is_empty() || here == said, "{here}, but the header says: {said}");
+        }
+    }
+
     #[test]
     fn an_unlisted_number_is_taken_for_no_other() {
         let listed: HashSet<u64> = of_the_header().into_iter().collect();
