@@ -9,6 +9,6 @@ for program in rebuild nulls; do
     gcc -Wall -Wextra -Werror -Iinclude "examples/c/$program.c" target/staticlib/libcapi.a -o "target/$program"
     "target/$program"
 done
-gcc -shared -Wl,--whole-archive target/staticlib/libcapi.a -Wl,--no-whole-archive -o target/libnavorzim.so
+sh shared.sh target/libnavorzim.so
 python3 examples/python/rebuild.py target/libnavorzim.so
 python3 tests/c_interface.py target/libnavorzim.so

@@ -1,6 +1,8 @@
 /* navorzim.h: plan, check and rebuild for small disk arrays that are coded with XOR.
  *
- * The functions are in libcapi.a, which `sh library.sh` proves and writes to target/staticlib/ (x86-64 Linux, position independent).
+ * The functions are in libnavorzim, which `sh install.sh --prefix DIR` proves and installs: `pkg-config --cflags --libs navorzim` says how
+ * to compile and link. Without an installation they are in libcapi.a, which `sh library.sh` writes to target/staticlib/ (x86-64 Linux,
+ * position independent).
  * Each of them is proved to answer, and to leave in every buffer, what its paragraph below says, for any input: no argument has to be
  * tested by the caller first. What the caller owes is under "Buffers". docs/RULES.md has the rules whole, with worked cases.
  *

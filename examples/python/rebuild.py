@@ -1,7 +1,6 @@
 """A disk of a row-diagonal array (p 5) dies and is rebuilt, from Python.
 
-    sh library.sh
-    gcc -shared -Wl,--whole-archive target/staticlib/libcapi.a -Wl,--no-whole-archive -o target/libnavorzim.so
+    sh shared.sh target/libnavorzim.so
     python3 examples/python/rebuild.py target/libnavorzim.so
 """
 import os

@@ -13,6 +13,11 @@ use std::path::{Path, PathBuf};
 /// The options that take no value.
 const FLAGS: &[&str] = &["--dry-run", "--in-place", "--links", "--read"];
 
+/// Whether an option takes a value.
+pub fn takes_value(option: &str) -> bool {
+    !FLAGS.contains(&option)
+}
+
 /// What follows a command's name, sorted. A question removes what it answers, so that `finish` finds what nobody asked for.
 #[derive(Debug)]
 pub struct Arguments {
@@ -72,10 +77,10 @@ impl Arguments {
         if self.options.iter().any(|(taken, _)| *taken == name) {
             return Err(self.misuse(format!("{name} is given twice")));
         }
-        let value = match (FLAGS.contains(&name), joined) {
-            (true, None) => OsString::new(),
-            (true, Some(_)) => return Err(self.misuse(format!("{name} takes no value"))),
-            (false, joined) => match joined.or_else(|| given.next()) {
+        let value = match (takes_value(name), joined) {
+            (false, None) => OsString::new(),
+            (false, Some(_)) => return Err(self.misuse(format!("{name} takes no value"))),
+            (true, joined) => match joined.or_else(|| given.next()) {
                 Some(value) => value,
                 None => return Err(self.misuse(format!("{name} needs a value"))),
             },

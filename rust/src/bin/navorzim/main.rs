@@ -10,6 +10,7 @@ mod arrays;
 mod birth;
 mod checksum;
 mod commands;
+mod completions;
 mod demo;
 mod disks;
 mod failure;
@@ -21,6 +22,7 @@ mod inventory;
 mod label;
 mod lists;
 mod locks;
+mod manual;
 mod output;
 mod picture;
 mod place;
@@ -35,6 +37,7 @@ mod stream;
 mod svg;
 mod system;
 mod text;
+mod usage;
 mod wanted;
 
 use arguments::shown;
@@ -67,6 +70,9 @@ fn answer(given: Vec<OsString>) -> Ran {
         Some("--version" | "-V") => {
             nothing_more(given).map(|()| format!("navorzim {}\n", env!("CARGO_PKG_VERSION"))).into()
         }
+        // For the installation, and in no list: what they print is made of the table of commands.
+        Some("man") => nothing_more(given).map(|()| manual::page()).into(),
+        Some("completions") => completions_for(given).into(),
         name => match name.and_then(commands::find) {
             Some(command) => commands::run(command, given),
             None => Err(unknown(&first)).into(),
@@ -83,6 +89,13 @@ fn help_for(mut given: impl Iterator<Item = OsString>) -> Result<String, Failure
         Some(command) => Ok(command.help.to_string()),
         None => Err(unknown(&name)),
     }
+}
+
+fn completions_for(mut given: impl Iterator<Item = OsString>) -> Result<String, Failure> {
+    let shell = given.next().unwrap_or_default();
+    nothing_more(given)?;
+    let script = shell.to_str().and_then(completions::script);
+    script.ok_or_else(|| misuse(format!("completions are for bash, zsh and fish, not for '{}'", shown(&shell))))
 }
 
 fn nothing_more(mut given: impl Iterator<Item = OsString>) -> Result<(), Failure> {

@@ -1,0 +1,168 @@
+//! The help texts, taken apart: usage lines as words and options, and what stands in lists. The man page and the completions are made
+//! of these, so that they say what help says.
+use crate::arguments::takes_value;
+use crate::commands::Command;
+use crate::help;
+
+/// What a usage line is made of, in its order.
+#[derive(Clone, Copy, Debug, PartialEq, Eq)]
+pub enum Item {
+    /// A word that stands as it is, like a family's name.
+    Literal(&'static str),
+    /// A word that stands for something of the user's, like CODE.
+    Word(&'static str),
+    /// An option, and what its value stands for, if it has one.
+    Option(&'static str, Option<&'static str>),
+}
+
+/// What a word of a usage line stands for.
+#[derive(Clone, Copy, Debug, PartialEq, Eq)]
+pub enum Kind {
+    File,
+    Folder,
+    /// Numbers and lists of them.
+    Numbers,
+}
+
+/// What a name in capital letters stands for; none for a name that no usage line has.
+pub fn kind(name: &str) -> Option<Kind> {
+    match name {
+        "CODE" | "DATA" | "FILE" | "OUT" | "PLAN" | "STRIPES" => Some(Kind::File),
+        "ARRAY" | "DIR" => Some(Kind::Folder),
+        "BYTES" | "DISK" | "DISKS" | "K" | "L" | "LIST" | "P" | "R" | "W" => Some(Kind::Numbers),
+        _ => None,
+    }
+}
+
+/// The usage lines of a help text, each from the tool's name on.
+pub fn lines(help: &'static str) -> impl Iterator<Item = &'static str> {
+    let first = help.lines().skip_while(|line| !line.starts_with("usage: "));
+    first.take_while(|line| !line.is_empty()).map(|line| line.trim_start_matches("usage:").trim_start())
+}
+
+/// What follows the command's name in each of its usage lines.
+pub fn items(command: &Command) -> Vec<Vec<Item>> {
+    lines(command.help).map(line_items).collect()
+}
+
+fn line_items(line: &'static str) -> Vec<Item> {
+    let mut words =
+        line.split_whitespace().skip(2).map(|word| word.trim_matches(['[', ']'])).filter(|word| *word != "|");
+    let mut items = Vec::new();
+    while let Some(word) = words.next() {
+        items.push(match word {
+            option if option.starts_with('-') => {
+                Item::Option(option, if takes_value(option) { words.next() } else { None })
+            }
+            word if word.starts_with(char::is_lowercase) => Item::Literal(word),
+            word => Item::Word(word),
+        });
+    }
+    items
+}
+
+/// A command's options with what their values stand for, in the order of the table.
+pub fn options(command: &Command) -> Vec<(&'static str, Option<&'static str>)> {
+    let items: Vec<Item> = items(command).into_iter().flatten().collect();
+    let value = |name| {
+        items.iter().find_map(|item| match item {
+            Item::Option(named, value) if *named == name => *value,
+            _ => None,
+        })
+    };
+    command.options.iter().map(|name| (*name, value(*name))).collect()
+}
+
+/// The words that a command takes besides its options, place by place; more than one where its usage lines differ.
+pub fn words(command: &Command) -> Vec<Vec<Item>> {
+    let mut places: Vec<Vec<Item>> = Vec::new();
+    for line in items(command) {
+        let words = line.into_iter().filter(|item| !matches!(item, Item::Option(..)));
+        for (place, word) in words.enumerate() {
+            if places.len() == place {
+                places.push(Vec::new());
+            }
+            if !places[place].contains(&word) {
+                places[place].push(word);
+            }
+        }
+    }
+    places
+}
+
+/// What help says a command does, in a line.
+pub fn summary(command: &Command) -> &'static str {
+    let mut listed = terms(help::ALL).into_iter();
+    listed.find_map(|(term, said)| (term == command.name).then_some(said)).unwrap_or("")
+}
+
+/// What an option is for, up to the first stop; for those that many commands share, said here.
+pub fn purpose(command: &Command, option: &str) -> &'static str {
+    let listed = terms(command.help).into_iter().find(|(term, _)| term.split(' ').next() == Some(option));
+    match (listed, option) {
+        (Some((_, said)), _) => said.split([':', ';', '.']).next().unwrap_or(said),
+        (None, "-o") => "where it is written",
+        (None, "--symbol") => "the bytes of a symbol",
+        (None, "--in-place") => "replaces STRIPES",
+        (None, "--keep") => "works in this folder, and leaves it",
+        _ => "",
+    }
+}
+
+/// The lines of a text's lists: a term and the first line of what is said of it.
+fn terms(text: &'static str) -> Vec<(&'static str, &'static str)> {
+    text.lines().filter_map(term).collect()
+}
+
+/// A line that begins an entry of a list: `  term  what is said`, or an option and its value with what is said of it.
+pub fn term(line: &'static str) -> Option<(&'static str, &'static str)> {
+    let entry = line.strip_prefix("  ").filter(|entry| !entry.starts_with(' '))?;
+    let words =
+        if !entry.starts_with('-') { None } else { Some(1 + usize::from(takes_value(entry.split(' ').next()?))) };
+    let end = match words {
+        None => entry.find("  ")?,
+        Some(words) => entry.match_indices(' ').nth(words - 1)?.0,
+    };
+    Some((&entry[..end], entry[end..].trim_start()))
+}
+
+#[cfg(test)]
+mod tests {
+    use super::{items, kind, options, purpose, summary, Item};
+    use crate::commands::COMMANDS;
+    use std::collections::BTreeSet;
+
+    #[test]
+    fn usage_lines_have_the_options_of_the_table() {
+        for command in COMMANDS {
+            let named: BTreeSet<&str> = items(command)
+                .into_iter()
+                .flatten()
+                .filter_map(|item| match item {
+                    Item::Option(name, _) => Some(name),
+                    _ => None,
+                })
+                .collect();
+            assert_eq!(named, command.options.iter().copied().collect(), "{}", command.name);
+        }
+    }
+
+    #[test]
+    fn every_command_and_option_is_explained() {
+        for command in COMMANDS {
+            assert!(!summary(command).is_empty(), "{}", command.name);
+            for (option, _) in options(command) {
+                assert!(!purpose(command, option).is_empty(), "{} {option}", command.name);
+            }
+        }
+    }
+
+    #[test]
+    fn every_name_stands_for_something() {
+        for item in COMMANDS.iter().flat_map(items).flatten() {
+            if let Item::Word(name) | Item::Option(_, Some(name)) = item {
+                assert!(kind(name).is_some(), "{name}");
+            }
+        }
+    }
+}
