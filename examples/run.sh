@@ -10,5 +10,8 @@ for program in rebuild nulls; do
     "target/$program"
 done
 sh shared.sh target/libnavorzim.so
-python3 examples/python/rebuild.py target/libnavorzim.so
 python3 tests/c_interface.py target/libnavorzim.so
+export NAVORZIM_LIBRARY=target/libnavorzim.so PYTHONPATH=python
+python3 examples/python/rebuild.py
+python3 -W error -m unittest discover -s python/tests >target/python.log 2>&1 || { cat target/python.log; exit 1; }
+echo "the Python package: $(sed -n 's/^Ran //p' target/python.log)"

@@ -1,36 +1,37 @@
-"""A disk of a row-diagonal array (p 5) dies and is rebuilt, from Python.
+"""A disk of a row-diagonal array (p 5) dies and is rebuilt, then two; then its plan, under another layout, is turned away.
 
-    sh shared.sh target/libnavorzim.so
-    python3 examples/python/rebuild.py target/libnavorzim.so
+    pip install ./python
+    python3 examples/python/rebuild.py
 """
 import os
-import sys
-from ctypes import CDLL, Structure, c_size_t, c_uint64, create_string_buffer
 
-
-def answer(names):
-    """A struct of navorzim.h: so many 64-bit numbers."""
-    return type("Answer", (Structure,), {"_fields_": [(name, c_uint64) for name in names.split()]})
-
-
-def lent(*given):
-    """Bytes go as pointer and length, numbers as they are."""
-    return [c for g in given for c in ((c_uint64(g),) if isinstance(g, int) else (g, c_size_t(len(g))))]
-
-
-navorzim = CDLL(os.path.abspath(sys.argv[1]))
-navorzim.navorzim_row_diagonal.restype = answer("number place length")
-navorzim.navorzim_plan.restype = answer("number place length reads pattern")
-navorzim.navorzim_encode.restype = navorzim.navorzim_rebuild.restype = answer("number place")
+from navorzim import Code, Refused
 
 L = 512
-sheet, plan, stripe = (create_string_buffer(length) for length in (518, 3081, 6 * 4 * L))
-code = sheet[: navorzim.navorzim_row_diagonal(*lent(5, sheet)).length]
-assert navorzim.navorzim_encode(*lent(code, L, os.urandom(4 * 4 * L), stripe)).number == 0
-whole = stripe.raw
-stripe[: 4 * L] = bytes(4 * L)  # disk 0 is gone
-planned = navorzim.navorzim_plan(*lent(code, 0, plan))
-assert planned.number == 0 and planned.length > 0
-assert navorzim.navorzim_rebuild(*lent(code, 0, plan[: planned.length], L, stripe)).number == 0
-assert stripe.raw == whole
-print(f"disk 0 is back, from {planned.reads} symbols")
+code = Code.row_diagonal(5)
+data = os.urandom(code.data_symbols * L)
+stripe = code.encode(L, data)
+whole = bytes(stripe)
+
+code.strip(0, L, stripe)[:] = bytes(code.rows * L)  # disk 0 is gone
+plan = code.plan(0)
+code.rebuild(0, plan, L, stripe)
+assert stripe == whole
+print(f"disk 0 is back, from {plan.reads} symbols")
+
+for disk in (0, 3):
+    code.strip(disk, L, stripe)[:] = bytes(code.rows * L)
+both = code.plan_disks([0, 3])
+code.rebuild([0, 3], both, L, stripe)
+assert stripe == whole
+print(f"disks 0 and 3 are back, from {both.reads} symbols")
+
+# the same shape, with the rows of P and Q on each other's disks
+rows = code.sheet[6:]
+other = Code(code.sheet[:6] + rows[:-64] + rows[-32:] + rows[-64:-32])
+try:
+    other.rebuild(0, plan, L, stripe)
+    raise SystemExit("wrong: another layout takes the plan")
+except Refused as refused:
+    assert refused.number == 21 and stripe == whole
+    print(f"under another layout: {refused}")

@@ -1,0 +1,260 @@
+"""A code, and all that is asked of it."""
+from operator import index
+from typing import Any, Iterable, Union
+
+from .library import Readable, Writable, ask, numbers
+from .plans import Plan
+from .refusals import NoPlan, Refused
+
+SHEET_BYTES, PLAN_BYTES = 518, 3210
+"""Buffers that every code sheet and every plan sheet fits into."""
+
+SIZES = range(1, 65537)
+"""The symbol lengths that there are."""
+
+Disks = Union[int, Iterable[int]]
+"""A lost disk, or a rising list of them."""
+
+Sheet = Union[Plan, Readable]
+"""A plan, or the bytes of a plan sheet."""
+
+
+def accepted(answer: Any) -> Any:
+    """An answer that refuses nothing."""
+    if answer.number != 0:
+        raise Refused(answer.number, answer.place)
+    return answer
+
+
+class Code:
+    """A code: n disks of r symbols, and which data symbols each of them is the XOR of. It is read from a code sheet.
+
+    >>> square = bytes([4, 1, 4, 2, 4, 8]) + b"".join(row.to_bytes(8, "little") for row in (1, 2, 4, 8, 5, 10, 9, 6))
+    >>> code = Code(square)
+    >>> code.disks, code.rows, code.symbols, code.data_symbols
+    (4, 2, 8, 4)
+    >>> Code(square[:-1])
+    Traceback (most recent call last):
+    ...
+    navorzim.refusals.Refused: refused 1 at 0: the code sheet is too short
+    """
+
+    __slots__ = ("_sheet", "_read")
+
+    def __init__(self, sheet: Readable) -> None:
+        """Reads a code sheet. Refused: 1 to 6."""
+        self._sheet = memoryview(sheet).tobytes()
+        self._read = accepted(ask("read_code", self._sheet))
+
+    @property
+    def sheet(self) -> bytes:
+        """The code sheet."""
+        return self._sheet
+
+    @property
+    def disks(self) -> int:
+        """n, the disks of the array."""
+        return int(self._read.disks)
+
+    @property
+    def rows(self) -> int:
+        """r, the symbols on each disk."""
+        return int(self._read.rows)
+
+    @property
+    def symbols(self) -> int:
+        """N, the symbols of the array."""
+        return int(self._read.symbols)
+
+    @property
+    def data_symbols(self) -> int:
+        """K, the data symbols."""
+        return int(self._read.data_symbols)
+
+    # Families
+
+    @classmethod
+    def single_parity(cls, data_disks: int, rows: int) -> "Code":
+        """One parity disk, the XOR of the data disks. Refused: 36.
+
+        >>> Code.single_parity(4, 3)
+        Code(5 disks of 3 rows, 12 data symbols)
+        """
+        return cls._family("single_parity", data_disks, rows)
+
+    @classmethod
+    def liberation(cls, w: int, data_disks: int) -> "Code":
+        """Liberation: w is 3, 5 or 7, and there are 2 to w data disks of w rows and two parity disks. Refused: 36.
+
+        >>> Code.liberation(7, 4)
+        Code(6 disks of 7 rows, 28 data symbols)
+        """
+        return cls._family("liberation", w, data_disks)
+
+    @classmethod
+    def row_diagonal(cls, p: int) -> "Code":
+        """Row-diagonal parity: p is 3, 5 or 7, and there are p - 1 data disks of p - 1 rows and two parity disks. Refused: 36.
+
+        >>> Code.row_diagonal(5)
+        Code(6 disks of 4 rows, 16 data symbols)
+        """
+        return cls._family("row_diagonal", p)
+
+    @classmethod
+    def evenodd(cls, p: int) -> "Code":
+        """EVENODD: p is 3, 5 or 7, and there are p data disks of p - 1 rows and two parity disks. Refused: 36.
+
+        >>> Code.evenodd(5)
+        Code(7 disks of 4 rows, 20 data symbols)
+        """
+        return cls._family("evenodd", p)
+
+    @classmethod
+    def _family(cls, name: str, *parameters: int) -> "Code":
+        buffer = bytearray(SHEET_BYTES)
+        written = accepted(ask(name, *parameters, buffer))
+        return cls(buffer[: written.length])
+
+    # Encoding
+
+    def encode(self, size: int, data: Readable) -> bytearray:
+        """The stripe of K data symbols: N symbols of `size` bytes, one after the other, disk by disk. Refused: 31, 33.
+
+        >>> Code.single_parity(2, 1).encode(2, b"\\x01\\x02\\x04\\x08").hex(" ", 2)
+        '0102 0408 050a'
+        """
+        size = index(size)
+        # what has no such size is refused, and needs no stripe
+        stripe = bytearray(self.symbols * size if size in SIZES else 0)
+        self.encode_into(size, data, stripe)
+        return stripe
+
+    def encode_into(self, size: int, data: Readable, stripe: Writable) -> None:
+        """Writes the stripe of K data symbols to the caller's own bytes, which must not overlap the data. Refused: 31, 33, 32.
+
+        >>> stripe = bytearray(6)
+        >>> Code.single_parity(2, 1).encode_into(2, b"\\x01\\x02\\x04\\x08", stripe)
+        >>> stripe.hex(" ", 2)
+        '0102 0408 050a'
+        """
+        accepted(ask("encode", self.sheet, size, data, stripe))
+
+    # Planning
+
+    def plan(self, disk: int) -> Plan:
+        """How the disk can be rebuilt from the others. Raises NoPlan where it can't. Refused: 7.
+
+        >>> Code.row_diagonal(3).plan(0)
+        Plan(disk 0, 4 steps, reads 4 symbols)
+        """
+        return self._planned("plan", disk)
+
+    def plan_wanted(self, disk: int, wanted: Iterable[int]) -> Plan:
+        """How these symbols of the disk, and no others, can be rebuilt: a rising list of their numbers, disk * rows + row. That may read
+        less, and may be possible where the whole disk is beyond help. Raises NoPlan where it isn't. Refused: 7, 23.
+
+        >>> Code.row_diagonal(3).plan_wanted(0, [1])
+        Plan(disk 0, symbols 1, 2 steps, reads 2 symbols)
+        """
+        return self._planned("plan_wanted", disk, numbers(wanted))
+
+    def plan_disks(self, disks: Iterable[int], wanted: Iterable[int] = ()) -> Plan:
+        """How these disks can be rebuilt from the others, or only the wanted symbols of them: rising lists both. Raises NoPlan where they
+        can't. Refused: 7, 24, 23.
+
+        >>> Code.row_diagonal(3).plan_disks([0, 2]).disks
+        (0, 2)
+        """
+        return self._planned("plan_disks", numbers(disks), numbers(wanted))
+
+    def _planned(self, call: str, *asked: Any) -> Plan:
+        buffer = bytearray(PLAN_BYTES)
+        planned = accepted(ask(call, self.sheet, *asked, buffer))
+        if planned.pattern != 0:
+            raise NoPlan(planned.pattern)
+        return Plan(bytes(buffer[: planned.length]), int(planned.reads))
+
+    # Checking and rebuilding
+
+    def check(self, disks: Disks, plan: Sheet) -> int:
+        """Whether the plan is right for this code and these lost disks, the very ones it was made for; answers how many surviving symbols
+        it reads. Refused: 7, 24, and the plan sheet's 11 to 25.
+
+        >>> code = Code.row_diagonal(3)
+        >>> code.check(0, code.plan(0))
+        4
+        >>> code.check([0, 2], code.plan(0))
+        Traceback (most recent call last):
+        ...
+        navorzim.refusals.Refused: refused 16 at 0: the plan was made for another disk, or for other disks
+        """
+        return int(self._asked("check", disks, plan).reads)
+
+    def rebuild(self, disks: Disks, plan: Sheet, size: int, stripe: Writable) -> None:
+        """Checks the plan, and then runs it on the stripe: the wanted symbols are written, and all other bytes stay. What the lost disks'
+        places hold doesn't matter. Refused: as for check, then 31, 32.
+
+        >>> code = Code.single_parity(2, 1)
+        >>> stripe = bytearray.fromhex("ffff 0408 050a")
+        >>> code.rebuild(0, code.plan(0), 2, stripe)
+        >>> stripe.hex(" ", 2)
+        '0102 0408 050a'
+        """
+        self._asked("rebuild", disks, plan, size, stripe)
+
+    def _asked(self, call: str, disks: Disks, plan: Sheet, *more: Any) -> Any:
+        sheet = plan.sheet if isinstance(plan, Plan) else plan
+        try:
+            disk = index(disks)  # type: ignore[arg-type]
+        except TypeError:
+            answer = ask(f"{call}_disks", self.sheet, numbers(disks), sheet, *more)  # type: ignore[arg-type]
+        else:
+            answer = ask(call, self.sheet, disk, sheet, *more)
+        if answer.number in (20, 21):
+            raise Refused(answer.number, answer.place, memoryview(sheet).cast("B")[1])
+        return accepted(answer)
+
+    # Parts of a stripe
+
+    def strip(self, disk: int, size: int, stripe: Readable) -> memoryview:
+        """The disk's part of the stripe, the very bytes: writing to it, where the stripe can be written, writes to the stripe.
+        Refused: 7, 31, 32.
+
+        >>> bytes(Code.single_parity(2, 1).strip(2, 2, b"\\x01\\x02\\x04\\x08\\x05\\x0a"))
+        b'\\x05\\n'
+        """
+        return self._part("strip", (stripe,), disk, size, stripe)
+
+    def look_up(self, disk: int, size: int, stripe: Readable, spare: Readable, symbol: int) -> memoryview:
+        """The symbol's bytes while `disk` is away and its strip is on a spare: the very bytes of the stripe, or of the spare strip.
+        Refused: 7, 31, 32, 35, 38.
+
+        >>> bytes(Code.single_parity(2, 1).look_up(0, 2, b"??efgh", b"ab", 0))
+        b'ab'
+        """
+        return self._part("look_up", (stripe, spare), disk, size, stripe, spare, symbol)
+
+    def _part(self, call: str, slices: "tuple[Readable, ...]", *given: Any) -> memoryview:
+        part = ask(call, self.sheet, *given)
+        if part.length == 0:
+            accepted(ask(f"{call}_verdict", self.sheet, *given))
+        return memoryview(slices[part.slice]).cast("B")[part.start : part.start + part.length]
+
+    # As a value
+
+    def __eq__(self, other: object) -> bool:
+        if not isinstance(other, Code):
+            return NotImplemented
+        return self.sheet == other.sheet
+
+    def __hash__(self) -> int:
+        return hash(self.sheet)
+
+    def __reduce__(self) -> "tuple[Any, ...]":
+        return Code, (self.sheet,)
+
+    def __bytes__(self) -> bytes:
+        return self.sheet
+
+    def __repr__(self) -> str:
+        return f"Code({self.disks} disks of {self.rows} rows, {self.data_symbols} data symbols)"

@@ -1,0 +1,220 @@
+"""Every call of the package against the second program, on many arrays, with good input and with one fault.
+
+    sh shared.sh target/libnavorzim.so
+    NAVORZIM_LIBRARY=target/libnavorzim.so PYTHONPATH=python python3 -m unittest discover -s python/tests
+
+What a call is lent lies between guard bytes, at an odd place, and those must stay.
+"""
+import sys
+import unittest
+from itertools import combinations
+from pathlib import Path
+from typing import Any, Callable, Optional, Union
+
+sys.path.insert(0, str(Path(__file__).resolve().parents[2] / "tests"))
+
+import second
+from arrays import SPECIAL_CODES, below, chosen, random_bytes, random_code, shuffled
+from second_checker import check, plan_sheet, set_sheet
+from second_planner import SET_BUFFER, Wish, can_be_rebuilt, for_disk, for_disks, judge_pattern, judge_plan, planning_refusal
+from second_rebuild import rebuild
+
+from navorzim import Code, NoPlan, Plan, Refused
+
+KINDS = (bytes, bytearray, memoryview)
+FAR = (-1, 255, 256, 2**32, 2**63, 2**64 - 1, 2**64, 2**64 + 1, 2**70)
+"""Numbers that are beyond every limit, some of which look small in their low bits."""
+
+
+class Guarded:
+    """Bytes between others that must stay, as a view that a call may write."""
+
+    def __init__(self, content: bytes) -> None:
+        self.before, self.after = random_bytes(13), random_bytes(17)
+        self.whole = bytearray(self.before + content + self.after)
+        self.view = memoryview(self.whole)[13 : 13 + len(content)]
+
+    def content(self) -> bytes:
+        """What is there now, once the guards have been looked at."""
+        assert self.whole[:13] == self.before and self.whole[13 + len(self.view) :] == self.after, "a guard byte has changed"
+        return bytes(self.view)
+
+
+def answer(call: Callable[[], Any]) -> Any:
+    """What a call answers, or its refusal as the second program has it."""
+    try:
+        return call()
+    except Refused as refused:
+        return second.Refusal(refused.number, refused.place)
+
+
+def some(content: bytes) -> Any:
+    """The bytes as one of the types that are taken."""
+    return chosen(KINDS)(content)
+
+
+def any_codes() -> "list[second.Code]":
+    families = [second.liberation(5, 5), second.row_diagonal(5), second.evenodd(3), second.single_parity(4, 3)]
+    return SPECIAL_CODES + families + [random_code(2 + below(4), 1 + below(4), 1 + below(8)) for _ in range(30)]
+
+
+class Families(unittest.TestCase):
+    def hold(self, made: Any, expected: Union[second.Code, second.Refusal]) -> None:
+        self.assertEqual(made.sheet if isinstance(made, Code) else made, expected if isinstance(expected, second.Refusal) else second.sheet_of(expected))
+
+    def test_every_parameter(self) -> None:
+        numbers = (*range(10), 31, 32, 33, 63, 64, 65, *FAR)
+        for first in numbers:
+            self.hold(answer(lambda: Code.row_diagonal(first)), second.row_diagonal(first))
+            self.hold(answer(lambda: Code.evenodd(first)), second.evenodd(first))
+            for other in numbers:
+                self.hold(answer(lambda: Code.single_parity(first, other)), second.single_parity(first, other))
+                self.hold(answer(lambda: Code.liberation(first, other)), second.liberation(first, other))
+
+
+class Sheets(unittest.TestCase):
+    def test_a_sheet_is_read_or_refused(self) -> None:
+        for code in any_codes():
+            good = second.sheet_of(code)
+            for sheet in (good, second.changed(good, below(len(good)), below(256)), good[:-1], good + b"\0", b"", bytes(600)):
+                expected = second.read_code(sheet)
+                made = answer(lambda: Code(some(sheet)))
+                if isinstance(made, Code):
+                    self.assertEqual(made.sheet, sheet)
+                    made = (made.disks, made.rows, made.data_symbols, made.symbols)
+                    expected = (expected.disks, expected.height, expected.data_symbols, expected.symbols)
+                self.assertEqual(made, expected)
+
+    def test_a_code_keeps_its_sheet(self) -> None:
+        sheet = bytearray(second.sheet_of(second.SQUARE))
+        code = Code(sheet)
+        sheet[:] = bytes(len(sheet))
+        self.assertEqual(code.sheet, second.sheet_of(second.SQUARE))
+
+
+class Calls(unittest.TestCase):
+    def test_encode(self) -> None:
+        for code in any_codes():
+            mine, sheet = Code(second.sheet_of(code)), second.sheet_of(code)
+            for size, data_off, stripe_off in ((1, 0, 0), (3, 0, 0), (7, 0, 0), (2, 1, 0), (2, 0, 1), (2, -1, 1), (0, 0, 0), (65537, 0, 0)):
+                length = size if size in (1, 2, 3, 7) else 1
+                data = random_bytes(code.data_symbols * length + data_off)
+                stripe = Guarded(random_bytes(code.symbols * length + stripe_off))
+                refusal, after = second.encode(sheet, size, data, stripe.content())
+                self.assertEqual(answer(lambda: mine.encode_into(size, some(data), stripe.view)), refusal)
+                self.assertEqual(stripe.content(), after)
+                if stripe_off == 0:
+                    self.assertEqual(answer(lambda: mine.encode(size, some(data))), refusal or after)
+            for size in FAR:
+                if size not in (255, 256):
+                    self.assertEqual(answer(lambda: mine.encode(size, b"")), second.Refusal(31))
+
+    def plan(self, code: second.Code, wish: Wish, ask: Callable[[], Plan]) -> "Optional[Plan]":
+        """Which plan or pattern is given is free: it is held to what must be true of it."""
+        sheet = second.sheet_of(code)
+        refusal = planning_refusal(sheet, wish, SET_BUFFER)
+        try:
+            plan = ask()
+        except NoPlan as why:
+            self.assertIsNone(refusal)
+            self.assertFalse(can_be_rebuilt(code, wish))
+            self.assertIsNone(judge_pattern(sheet, wish, why.pattern))
+            self.assertEqual(sum(1 << symbol for symbol in why.data_symbols), why.pattern)
+            self.assertTrue(str(why).startswith("no plan can be: data symbol"))
+            return None
+        except Refused as refused:
+            self.assertEqual((refused.number, refused.place), refusal)
+            return None
+        self.assertIsNone(refusal)
+        self.assertIsNone(judge_plan(sheet, wish, plan.sheet, plan.reads))
+        self.assertEqual((plan.edition, plan.disks, plan.wanted), (wish.edition, tuple(wish.disks), tuple(wish.listed or ())))
+        head = wish.head
+        self.assertEqual(b"".join(map(bytes, plan.steps)), plan.sheet[head:])
+        self.assertEqual(len(plan.steps), int.from_bytes(plan.sheet[head - 2 : head], "little"))
+        return plan
+
+    def hold(self, code: second.Code, mine: Code, disks: Any, plan: bytes, size: int, stripe: bytes) -> None:
+        """Check and rebuild, with a plan that may be anything."""
+        sheet, asked = second.sheet_of(code), [disks] if isinstance(disks, int) else disks
+        self.assertEqual(answer(lambda: mine.check(disks, some(plan))), check(sheet, asked, plan))
+        lent = Guarded(stripe)
+        refusal, after = rebuild(sheet, asked, plan, size, stripe)
+        self.assertEqual(answer(lambda: mine.rebuild(disks, some(plan), size, lent.view)), refusal)
+        self.assertEqual(lent.content(), after)
+
+    def test_one_disk(self) -> None:
+        for code in any_codes():
+            mine, size = Code(second.sheet_of(code)), chosen((1, 2, 7))
+            for _ in range(4):
+                disk = below(code.disks)
+                asked = chosen((disk, disk, disk, code.disks, *FAR[1:6]))
+                lost = range(disk * code.height, (disk + 1) * code.height)
+                listed = sorted(shuffled(lost)[: 1 + below(len(lost))])
+                listed = chosen((listed, listed, listed[::-1], listed * 2, [], listed[:-1] + [below(256)]))
+                whole = self.plan(code, for_disk(asked), lambda: mine.plan(asked))
+                part = self.plan(code, for_disk(asked, listed), lambda: mine.plan_wanted(asked, chosen((list, tuple, bytes))(listed)))
+                stripe = random_bytes(code.symbols * size + chosen((0, 0, 0, 1)))
+                for plan in filter(None, (whole, part)):
+                    mine.check(asked, plan)
+                    for sheet in (plan.sheet, second.changed(plan.sheet, below(len(plan.sheet)), below(10)), plan.sheet[:-1]):
+                        self.hold(code, mine, asked, sheet, chosen((size, size, size, 0, 65537)), stripe)
+                self.hold(code, mine, asked, plan_sheet(code, disk, []), size, stripe)
+
+    def test_several_disks(self) -> None:
+        for code in any_codes():
+            mine, size = Code(second.sheet_of(code)), chosen((1, 2, 7))
+            for _ in range(4):
+                every = range(code.disks)
+                good = sorted(shuffled(every)[: 1 + below(min(4, len(every)))])
+                disks = chosen((good, good, good, good[::-1], good * 2, [], [0] * 300, good[:-1] + [below(256)]))
+                lost = [symbol for symbol in range(code.symbols) if symbol // code.height in disks] or [0]
+                listed = chosen(([], sorted(shuffled(lost)[: 1 + below(len(lost))]), lost[::-1]))
+                plan = self.plan(code, for_disks(bytes(disks), bytes(listed)), lambda: mine.plan_disks(chosen((list, tuple, bytes))(disks), listed))
+                stripe = random_bytes(code.symbols * size)
+                if plan:
+                    self.hold(code, mine, disks, plan.sheet, size, stripe)
+                    self.hold(code, mine, disks, second.changed(plan.sheet, below(len(plan.sheet)), below(10)), size, stripe)
+                    self.hold(code, mine, disks[:1], plan.sheet, size, stripe)
+                    self.hold(code, mine, disks[0], plan.sheet, size, stripe)
+                self.hold(code, mine, disks, set_sheet(code, good, []), size, stripe)
+
+    def test_entries_beyond_a_byte(self) -> None:
+        """An entry that doesn't fit into a byte is no disk and no symbol, also where its low byte is one."""
+        code = Code.row_diagonal(5)
+        for entry in FAR:
+            self.assertEqual(answer(lambda: code.plan_disks([entry])), second.Refusal(7))
+            self.assertEqual(answer(lambda: code.plan_disks([0, entry])), second.Refusal(7))
+            self.assertEqual(answer(lambda: code.plan_disks([0, 1], [0, 1, entry])), second.Refusal(23, 2))
+            self.assertEqual(answer(lambda: code.plan_wanted(0, [1, entry])), second.Refusal(23, 1))
+            self.assertEqual(answer(lambda: code.check([entry], code.plan(0))), second.Refusal(7))
+            for ask in (lambda: code.plan(entry), lambda: code.check(entry, code.plan(0)), lambda: code.strip(entry, 1, bytes(24))):
+                self.assertEqual(answer(ask), second.Refusal(7))
+            self.assertEqual(answer(lambda: code.look_up(0, 1, bytes(24), bytes(4), entry)), second.Refusal(38))
+
+    def test_any_two_disks_come_back(self) -> None:
+        for code in (Code.liberation(5, 4), Code.row_diagonal(5), Code.evenodd(3)):
+            data = random_bytes(code.data_symbols * 3)
+            for pair in combinations(range(code.disks), 2):
+                stripe = code.encode(3, data)
+                whole = bytes(stripe)
+                for disk in pair:
+                    code.strip(disk, 3, stripe)[:] = random_bytes(code.rows * 3)
+                self.assertNotEqual(stripe, whole)
+                code.rebuild(pair, code.plan_disks(pair), 3, stripe)
+                self.assertEqual(stripe, whole)
+
+    def test_strip_and_look_up(self) -> None:
+        for code in any_codes():
+            mine, sheet, size = Code(second.sheet_of(code)), second.sheet_of(code), chosen((1, 2, 7))
+            for off, length in ((0, size), (0, size), (1, size), (0, 0), (0, 65537)):
+                stripe, spare = random_bytes(code.symbols * size + off), random_bytes(code.height * size + chosen((0, 0, 1)))
+                for disk in (0, code.disks - 1, code.disks, 2**64 - 1):
+                    expected = second.strip(sheet, disk, length, stripe)
+                    self.assertEqual(answer(lambda: mine.strip(disk, length, some(stripe))), expected)
+                    for symbol in (0, below(code.symbols), code.symbols):
+                        expected = second.look_up(sheet, disk, length, stripe, spare, symbol)
+                        self.assertEqual(answer(lambda: mine.look_up(disk, length, some(stripe), some(spare), symbol)), expected)
+
+
+if __name__ == "__main__":
+    unittest.main()

@@ -1,0 +1,285 @@
+"""The package around the calls: types, bytes that are lent and not copied, the examples of its documentation, the header's sentences and
+version, how the library is found, and the installation by pip."""
+import array
+import doctest
+import mmap
+import os
+import pickle
+import re
+import shutil
+import subprocess
+import sys
+import tempfile
+import threading
+import tracemalloc
+import unittest
+from pathlib import Path
+from typing import Any, Callable, Optional
+
+import navorzim
+from navorzim import Code, NoPlan, Plan, Refused, library, refusals
+
+PYTHON = Path(__file__).resolve().parents[1]
+HEADER = (PYTHON.parent / "include" / "navorzim.h").read_text("utf-8")
+BUILT = library.LIBRARY._name
+
+
+def load_tests(_loader: unittest.TestLoader, tests: unittest.TestSuite, _pattern: Optional[str]) -> unittest.TestSuite:
+    """The examples of the documentation are tests too."""
+    for module in ("navorzim", "navorzim.code", "navorzim.plans", "navorzim.refusals"):
+        tests.addTests(doctest.DocTestSuite(module))
+    return tests
+
+
+class Types(unittest.TestCase):
+    code = Code.row_diagonal(3)
+
+    def test_wrong_types_are_refused(self) -> None:
+        code, plan, stripe, data = self.code, self.code.plan(0), bytearray(8), bytes(4)
+        scattered = memoryview(bytearray(16))[::2]
+        for wrong in (
+            lambda: Code("sheet"),
+            lambda: Code(70),
+            lambda: Code(None),
+            lambda: Code([4, 1, 4, 2, 4, 8]),
+            lambda: Code.liberation("5", 5),
+            lambda: Code.liberation(5.0, 5),
+            lambda: Code.row_diagonal(None),
+            lambda: code.encode("1", data),
+            lambda: code.encode(1.0, data),
+            lambda: code.encode(1, "data"),
+            lambda: code.encode(1, [0, 0, 0, 0]),
+            lambda: code.encode_into(1, data, bytes(8)),
+            lambda: code.encode_into(1, data, memoryview(bytes(8))),
+            lambda: code.encode_into(1, data, scattered),
+            lambda: code.encode_into(1, scattered[:4], stripe),
+            lambda: code.encode_into(1, data, None),
+            lambda: code.plan("0"),
+            lambda: code.plan([0]),
+            lambda: code.plan_wanted(0, 1),
+            lambda: code.plan_wanted(0, ["1"]),
+            lambda: code.plan_wanted(0, "1"),
+            lambda: code.plan_disks(0),
+            lambda: code.plan_disks([0.0]),
+            lambda: code.plan_disks([0], None),
+            lambda: code.check(0, "plan"),
+            lambda: code.check("0", plan),
+            lambda: code.check(None, plan),
+            lambda: code.check(0.0, plan),
+            lambda: code.check(0, None),
+            lambda: code.rebuild(0, plan, 1, bytes(8)),
+            lambda: code.rebuild([0], plan, 1, memoryview(bytes(8))),
+            lambda: code.rebuild(0, plan, "1", stripe),
+            lambda: code.rebuild(0, 5, 1, stripe),
+            lambda: code.strip(0, 1, "12345678"),
+            lambda: code.strip(0, 1, scattered),
+            lambda: code.strip(None, 1, stripe),
+            lambda: code.look_up(0, 1, stripe, None, 0),
+            lambda: code.look_up(0, 1, stripe, bytes(2), "0"),
+        ):
+            self.assertRaises(TypeError, wrong)
+        self.assertEqual(stripe, bytes(8))
+
+    def test_overlapping_bytes_are_refused(self) -> None:
+        room = memoryview(bytearray(range(12)))
+        for data, stripe in ((room[:4], room[3:11]), (room[4:8], room[4:12]), (room[5:9], room[1:9]), (room[7:11], room[:8])):
+            self.assertRaises(ValueError, self.code.encode_into, 1, data, stripe)
+            self.assertEqual(bytes(room), bytes(range(12)))
+        # side by side is not over one another, and no bytes overlap nothing
+        self.code.encode_into(1, room[8:], room[:8])
+        self.assertEqual(bytes(room[:8]), bytes(self.code.encode(1, room[8:])))
+        self.assertEqual(Refused(33).args, self.refusal(lambda: self.code.encode_into(1, room[3:3], room[:8])))
+        self.code.rebuild(0, self.code.plan(0), 1, room[:8])
+        sheet = bytearray(self.code.plan(0).sheet + bytes(8))
+        self.assertRaises(ValueError, self.code.rebuild, 0, memoryview(sheet)[:21], 1, memoryview(sheet)[20:28])
+
+    def refusal(self, call: Callable[[], Any]) -> "tuple[Any, ...]":
+        with self.assertRaises(Refused) as caught:
+            call()
+        return caught.exception.args
+
+    def test_other_bytes_are_taken_as_they_lie(self) -> None:
+        stripe = self.code.encode(8, bytes(range(32)))
+        numbers = array.array("Q", bytes(stripe))
+        with mmap.mmap(-1, len(stripe)) as mapped:
+            mapped[:] = bytes(stripe)
+            for lent in (numbers, mapped):
+                with self.code.strip(0, 8, lent) as strip:
+                    strip[:] = bytes(16)
+                self.assertNotEqual(bytes(lent), bytes(stripe))
+                self.code.rebuild(0, self.code.plan(0), 8, lent)
+                self.assertEqual(bytes(lent), bytes(stripe))
+
+    def test_parts_are_the_very_bytes(self) -> None:
+        stripe, spare = bytearray(8), bytearray(2)
+        self.code.strip(1, 1, stripe)[:] = b"ab"
+        self.code.look_up(0, 1, stripe, spare, 1)[:] = b"c"
+        self.code.look_up(0, 1, stripe, spare, 7)[:] = b"d"
+        self.assertEqual((bytes(stripe), bytes(spare)), (b"\0\0ab\0\0\0d", b"\0c"))
+        self.assertTrue(self.code.strip(1, 1, bytes(stripe)).readonly)
+
+    def test_no_stripe_is_copied(self) -> None:
+        code, size = Code.liberation(7, 7), 65536
+        data, plan = bytes(code.data_symbols * size), code.plan(0)
+        stripe, spare = bytearray(code.symbols * size), bytes(code.rows * size)
+        kept = bytes(stripe)
+        tracemalloc.start()
+        try:
+            code.encode_into(size, data, stripe)
+            code.encode_into(size, memoryview(data), memoryview(stripe))
+            code.rebuild(0, plan, size, stripe)
+            for lent in (stripe, kept, memoryview(kept)):
+                code.strip(0, size, lent)
+                code.look_up(0, size, lent, spare, 5)
+            _, most = tracemalloc.get_traced_memory()
+        finally:
+            tracemalloc.stop()
+        self.assertLess(most, size)
+
+    def test_threads_work_at_once(self) -> None:
+        code = Code.evenodd(5)
+        data = bytes(range(20)) * 512
+        whole, wrong = code.encode(512, data), []
+
+        def work() -> None:
+            for disk in range(code.disks):
+                stripe = bytearray(whole)
+                code.strip(disk, 512, stripe)[:] = bytes(4 * 512)
+                code.rebuild(disk, code.plan(disk), 512, stripe)
+                if stripe != whole:
+                    wrong.append(disk)
+
+        threads = [threading.Thread(target=work) for _ in range(4)]
+        for thread in threads:
+            thread.start()
+        for thread in threads:
+            thread.join()
+        self.assertEqual(wrong, [])
+
+    def test_values(self) -> None:
+        code, plan = self.code, self.code.plan_disks([0, 2])
+        refused, why = Refused(22, 7), NoPlan(4)
+        for value in (code, plan):
+            self.assertEqual(pickle.loads(pickle.dumps(value)), value)
+            self.assertEqual(hash(pickle.loads(pickle.dumps(value))), hash(value))
+        self.assertNotEqual(code, Code.row_diagonal(5))
+        self.assertNotEqual(code, code.sheet)
+        self.assertEqual((bytes(code), bytes(plan)), (code.sheet, plan.sheet))
+        self.assertEqual(str(pickle.loads(pickle.dumps(refused))), str(refused))
+        self.assertEqual(pickle.loads(pickle.dumps(why)).pattern, 4)
+        self.assertEqual(str(why), "no plan can be: data symbol 2 could be another one")
+        self.assertRaises(AttributeError, setattr, code, "disks", 3)
+        self.assertRaises(AttributeError, setattr, plan, "reads", 3)
+        self.assertEqual(code.check([0, 2], Plan(plan.sheet, 0)), plan.reads)
+
+
+class Header(unittest.TestCase):
+    def test_sentences(self) -> None:
+        said = {int(number): sentence for number, sentence in re.findall(r'case (\d+): return "(.*)";', HEADER)}
+        self.assertEqual(said.pop(0), "nothing was refused")
+        self.assertEqual(refusals.REASONS, said)
+        for number in said:
+            self.assertTrue(str(Refused(number, 65)).startswith(f"refused {number} at 65: {said[number]}"))
+        self.assertEqual(str(Refused(99, 3)), "refused 99 at 3: a refusal that has no sentence here")
+
+    def test_a_wanted_symbol_is_named_by_the_edition(self) -> None:
+        code = Code.row_diagonal(3)
+        for plan, disks, said in (
+            (code.plan(1), 1, "refused 21 at 64: a wanted symbol ends wrong (row 1; data symbol 0 is off)"),
+            (code.plan_disks([1]), [1], "refused 21 at 192: a wanted symbol ends wrong (symbol 3; data symbol 0 is off)"),
+        ):
+            # the last step copies symbol 4 to symbol 3, which is the XOR of data symbols 0 and 2
+            with self.assertRaises(Refused) as caught:
+                code.check(disks, plan.sheet[:-3] + bytes([1, 3, 4]))
+            self.assertEqual(str(caught.exception), said)
+
+    def test_version(self) -> None:
+        self.assertEqual(re.search('^#define NAVORZIM_VERSION "(.*)"$', HEADER, re.M)[1], navorzim.__version__)
+        self.assertEqual(library.LOADED_AS, f"libnavorzim.so.{navorzim.__version__.split('.')[0]}")
+        self.assertIn(library.LOADED_AS.encode() + b"\0", Path(BUILT).read_bytes())
+
+    def test_calls(self) -> None:
+        """Each call of the header with its answer and its parameters."""
+        kinds = {"uint64_t": library.NUMBER, "const uint8_t *": library.READ, "uint8_t *": library.WRITTEN}
+        found = {}
+        for answer, call, parameters in re.findall(r"^navorzim_(\w+) navorzim_(\w+)\(([^)]*)\);", HEADER, re.M):
+            types = [re.match(r"\s*(const uint8_t \*|uint8_t \*|\w+)", parameter)[1] for parameter in parameters.split(",")]
+            found[call] = (answer, tuple(kinds[kind] for kind in types if kind != "size_t"))
+        self.assertEqual(library.CALLS, found)
+
+    def test_answers(self) -> None:
+        structs = re.findall(r"typedef struct \{\s*uint64_t ([\w, ]+);\s*\} navorzim_(\w+);", HEADER)
+        self.assertEqual(library.FIELDS, {name: tuple(fields.split(", ")) for fields, name in structs})
+
+
+USE = "from navorzim import Code, library; print(Code.evenodd(3).plan(0).reads, library.LIBRARY._name)"
+
+
+def run(*words: str, **environment: Optional[str]) -> "tuple[int, str]":
+    """Runs a program outside of the repository, with only these variables changed."""
+    kept = {name: value for name, value in os.environ.items() if not name.startswith(("NAVORZIM", "PYTHON", "LD_", "PIP"))}
+    kept.update({name: value for name, value in environment.items() if value is not None})
+    ran = subprocess.run(words, env=kept, cwd="/", stdout=subprocess.PIPE, stderr=subprocess.STDOUT, text=True)
+    return ran.returncode, ran.stdout
+
+
+class Finding(unittest.TestCase):
+    def setUp(self) -> None:
+        folder: Any = tempfile.TemporaryDirectory()
+        self.addCleanup(folder.cleanup)
+        self.folder = Path(folder.name)
+        shutil.copytree(PYTHON / "navorzim", self.folder / "navorzim", ignore=shutil.ignore_patterns("*.so", "__pycache__"))
+
+    def use(self, **environment: str) -> "tuple[int, str]":
+        return run(sys.executable, "-B", "-c", USE, PYTHONPATH=str(self.folder), **environment)
+
+    def test_by_name(self) -> None:
+        self.assertEqual(self.use(NAVORZIM_LIBRARY=BUILT), (0, f"6 {BUILT}\n"))
+
+    def test_beside_the_package(self) -> None:
+        beside = self.folder / "navorzim" / "libnavorzim.so"
+        shutil.copy(BUILT, beside)
+        self.assertEqual(self.use(), (0, f"6 {beside}\n"))
+        self.assertEqual(self.use(NAVORZIM_LIBRARY=BUILT), (0, f"6 {BUILT}\n"))
+
+    def test_by_the_loader(self) -> None:
+        (self.folder / "lib").mkdir()
+        shutil.copy(BUILT, self.folder / "lib" / "libnavorzim.so.0")
+        self.assertEqual(self.use(LD_LIBRARY_PATH=str(self.folder / "lib")), (0, "6 libnavorzim.so.0\n"))
+
+    def test_none_or_another(self) -> None:
+        shutil.copy(BUILT, self.folder / "navorzim" / "libnavorzim.so")
+        (self.folder / "text").write_text("no library")
+        libc = "libc.so.6"
+        for named in (self.folder / "missing", self.folder / "text"):
+            status, said = self.use(NAVORZIM_LIBRARY=str(named))
+            self.assertTrue(status == 1 and "ImportError" in said and "named by NAVORZIM_LIBRARY" in said and str(named) in said, said)
+        os.symlink(next(iter(Path("/").glob(f"lib/*/{libc}")), f"/lib/{libc}"), self.folder / libc)
+        status, said = self.use(NAVORZIM_LIBRARY=str(self.folder / libc))
+        self.assertTrue(status == 1 and "ImportError" in said and "navorzim_" in said, said)
+
+
+@unittest.skipIf(run(sys.executable, "-m", "pip", "--version")[0] != 0, "there is no pip")
+class Installing(unittest.TestCase):
+    def install(self, folder: str, *words: str) -> None:
+        quiet = ("--quiet", "--disable-pip-version-check", "--no-cache-dir", "--root-user-action=ignore")
+        status, said = run(sys.executable, "-m", "pip", "install", *quiet, "--no-index", "--no-deps", "--target", folder, *words, str(PYTHON))
+        self.assertEqual(status, 0, said)
+
+    def test_with_the_library_inside(self) -> None:
+        with tempfile.TemporaryDirectory() as folder:
+            self.install(folder, "--no-build-isolation")
+            self.assertEqual(run(sys.executable, "-c", USE, PYTHONPATH=folder), (0, f"6 {folder}/navorzim/libnavorzim.so\n"))
+            self.assertTrue((Path(folder) / "navorzim" / "py.typed").exists())
+            said = run(sys.executable, "-c", "from importlib.metadata import version; print(version('navorzim'))", PYTHONPATH=folder)
+            self.assertEqual(said, (0, f"{navorzim.__version__}\n"))
+
+    def test_with_the_systems_library(self) -> None:
+        with tempfile.TemporaryDirectory() as folder:
+            self.install(folder, "--config-settings", "library=system")
+            self.assertFalse((Path(folder) / "navorzim" / "libnavorzim.so").exists())
+            self.assertEqual(run(sys.executable, "-c", USE, PYTHONPATH=folder, NAVORZIM_LIBRARY=BUILT), (0, f"6 {BUILT}\n"))
+
+
+if __name__ == "__main__":
+    unittest.main()
