@@ -5,6 +5,7 @@ cd "$(dirname "$0")/.."
 mkdir -p target
 sh library.sh >target/examples.log 2>&1 || { cat target/examples.log; exit 1; }
 python3 tests/header.py
+python3 tests/demo.py
 for program in rebuild nulls; do
     gcc -Wall -Wextra -Werror -Iinclude "examples/c/$program.c" target/staticlib/libcapi.a -o "target/$program"
     "target/$program"

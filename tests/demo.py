@@ -1,0 +1,171 @@
+"""demo.sh: what it says while the library is proved, at a terminal and elsewhere, and how it ends where something goes wrong. rt and cargo
+are stand-ins; rt works on until the test has read the line that it waits for.
+
+    python3 tests/demo.py
+"""
+import os
+import pty
+import re
+import shutil
+import subprocess
+import tempfile
+import time
+from pathlib import Path
+from typing import Callable, Iterator
+
+ROOT = Path(__file__).resolve().parent.parent
+RT = """#!/bin/sh
+mkdir -p target/log target/staticlib
+wait_for() { until [ -e "$1" ]; do sleep 0.1; done; }
+prove() {
+    : >"target/log/$1.out"
+    wait_for crates-go
+    if [ "$1" = "${REFUSED:-}" ]; then echo "rt: $1 NOT PROVED (exit 1, 1 s)"; else echo "rt: $1 proved (1 s)"; fi >"target/log/$1.out"
+}
+case $1 in
+version) echo stand-in ;;
+check) shift; for crate; do prove "$crate" & done; wait; for crate; do cat "target/log/$crate.out"; done; [ -z "${REFUSED:-}" ] ;;
+staticlib) wait_for capi-goes; echo archive >target/staticlib/libcapi.a ;;
+esac
+"""
+CARGO = '#!/bin/sh\n[ "$1" = build ] || echo "cargo $*, in ${PWD##*/}"\n'
+SHOWN = "cargo run --offline --quiet --bin navorzim -- demo, in rust\n"
+AT_WORK = r"0 of 4 crates are proved, \d:\d\d, now first, second and 1 more"
+AT_LAST = r"3 of 4 crates are proved, \d:\d\d, now capi"
+PROVED = r"The library is proved: 4 crates, in \d:\d\d\.\n"
+
+
+class House:
+    """A repository of five crates, three of them below capi, and stand-ins for rt and cargo."""
+
+    def __init__(self, folder: str) -> None:
+        self.root = Path(folder)
+        for name in ("bin", "rust", "crates/capi", "target/log"):
+            (self.root / name).mkdir(parents=True)
+        for name in ("demo.sh", "library.sh"):
+            shutil.copy(ROOT / name, self.root)
+        (self.root / "crates.txt").write_text("# floors\nfirst:\nsecond:\nthird:\nother: first\ncapi: first second third\n")
+        (self.root / "crates/capi/text").write_text("")
+        # what an earlier run has left doesn't count
+        (self.root / "target/log/second.out").write_text("rt: second proved (1 s)\n")
+        for name, text in (("rt", RT), ("cargo", CARGO)):
+            (self.root / "bin" / name).write_text(text)
+            (self.root / "bin" / name).chmod(0o755)
+        self.script = ["/bin/sh", str(self.root / "demo.sh")]
+        self.environment = {**os.environ, "PATH": f"{self.root / 'bin'}:{os.environ['PATH']}", "TMPDIR": str(self.root)}
+
+    def goes(self, name: str) -> Callable[[int], object]:
+        """Lets the stand-in go on."""
+        return lambda _: (self.root / name).touch()
+
+    def steps(self) -> "list[tuple[str, Callable[[int], object]]]":
+        """What is waited for, and what then happens."""
+        return [(AT_WORK, self.goes("crates-go")), (AT_LAST, self.goes("capi-goes"))]
+
+    def elsewhere(self, **variables: str) -> "tuple[int, str, str]":
+        """The status, what it says and what it says aside."""
+        child = subprocess.Popen(self.script, env={**self.environment, **variables}, cwd="/", stdout=subprocess.PIPE, stderr=subprocess.PIPE)
+        aside = watched(child.stderr.fileno(), self.steps())
+        out, rest = child.communicate()
+        return child.returncode, out.decode(), aside + rest.decode()
+
+    def at_terminal(self, steps: "list[tuple[str, Callable[[int], object]]]") -> "tuple[int, str]":
+        """The status and all that the terminal was sent."""
+        child, terminal = pty.fork()
+        if child == 0:
+            os.execve(self.script[0], self.script, self.environment)
+        sent = watched(terminal, steps)
+        _, status = os.waitpid(child, 0)
+        os.close(terminal)
+        return os.waitstatus_to_exitcode(status), sent
+
+    def processes(self) -> int:
+        """How many stand-ins are still at work, once those that were told to end had the time."""
+        for _ in range(50):
+            count = sum(str(self.root).encode() in command for command in commands())
+            if count == 0:
+                break
+            time.sleep(0.1)
+        return count
+
+    def left(self) -> "list[str]":
+        """The temporary folders that are left."""
+        return [path.name for path in self.root.iterdir() if path.name.startswith("tmp.")]
+
+
+def commands() -> "Iterator[bytes]":
+    """The command lines of all processes."""
+    for path in Path("/proc").glob("[0-9]*/cmdline"):
+        try:
+            yield path.read_bytes()
+        except OSError:  # it has ended
+            pass
+
+
+def watched(file: int, steps: "list[tuple[str, Callable[[int], object]]]") -> str:
+    """All that comes from a file. Each step is taken when its text has come."""
+    came, steps = b"", list(steps)
+    while True:
+        try:
+            piece = os.read(file, 4096)
+        except OSError:  # a terminal that nobody writes to any more
+            piece = b""
+        if not piece:
+            return came.decode()
+        came += piece
+        while steps and re.search(steps[0][0], came.decode("utf-8", "ignore")):
+            steps.pop(0)[1](file)
+
+
+def test_elsewhere(house: House) -> None:
+    names = subprocess.run(["sh", "library.sh", "--crates"], cwd=house.root, capture_output=True, text=True, check=True).stdout
+    assert names.split() == ["first", "second", "third", "capi"], names
+    status, out, aside = house.elsewhere()
+    lines = aside.splitlines()
+    assert status == 0 and re.fullmatch(PROVED + re.escape(SHOWN), out), (status, out, aside)
+    assert all(re.fullmatch(r"\d of 4 crates are proved, \d:\d\d(, now [a-z, 1]*)?", line) for line in lines), aside
+    assert [line for line in lines if re.fullmatch(AT_WORK, line)] and re.fullmatch(AT_LAST, lines[-1]), aside
+    again = "The library is proved: 4 crates, and nothing has changed since.\n" + SHOWN
+    assert house.elsewhere() == (0, again, ""), house.elsewhere()
+
+
+def test_refused(house: House) -> None:
+    house.goes("crates-go")(0)
+    status, out, aside = house.elsewhere(REFUSED="second")
+    assert (status, out) == (1, ""), (status, out, aside)
+    assert aside.endswith("demo.sh: the library isn't proved\n") and "rt: second NOT PROVED (exit 1, 1 s)\n" in aside, aside
+
+
+def test_terminal(house: House) -> None:
+    status, sent = house.at_terminal(house.steps())
+    before, said, after = re.split(f"({PROVED})", sent.replace("\r\n", "\n"))
+    # on the terminal all of that is one line, which is gone in the end
+    assert status == 0 and "\n" not in before and before.endswith("\r\x1b[K") and after.endswith(SHOWN), sent
+    lines = re.findall(r"\r([^\r\n\x1b]*)\x1b\[K", before)
+    assert any(re.fullmatch(AT_WORK, line) for line in lines) and re.fullmatch(AT_LAST, lines[-2]), sent
+
+
+def test_interrupted(house: House) -> None:
+    status, sent = house.at_terminal([(AT_WORK, lambda terminal: os.write(terminal, b"\x03"))])
+    assert status == 130 and "cargo" not in sent and sent.endswith("\r\x1b[K"), (status, sent)
+    assert house.processes() == 0
+
+
+def test_ended(house: House) -> None:
+    child = subprocess.Popen(house.script, env=house.environment, cwd="/", stdout=subprocess.PIPE, stderr=subprocess.PIPE)
+    watched(child.stderr.fileno(), [(AT_WORK, lambda _: child.terminate())])
+    child.communicate()
+    assert child.returncode == 130 and house.processes() == 0, child.returncode
+
+
+def main() -> None:
+    for test in (test_elsewhere, test_refused, test_terminal, test_interrupted, test_ended):
+        with tempfile.TemporaryDirectory() as folder:
+            house = House(folder)
+            test(house)
+            assert house.left() == [], house.left()
+    print("demo.sh: says how far it is, at a terminal and elsewhere")
+
+
+if __name__ == "__main__":
+    main()
