@@ -3,48 +3,81 @@ use crate::commands::COMMANDS;
 use crate::{help, usage};
 use std::fmt::Write;
 
+/// The options that no command's own help explains.
+const OPTIONS: &[(&str, &str)] = &[
+    ("-h, --help", "says how the command is used"),
+    ("-V, --version", "in place of a command: prints the version"),
+    ("-o FILE, --output FILE", "two names of one option: where the command writes"),
+];
+
 /// The page navorzim(1), in the macros of man(7).
 pub fn page() -> String {
     let mut page = String::new();
+    write_head(&mut page);
+    write_synopsis(&mut page);
+    write_description(&mut page);
+    write_commands(&mut page);
+    write_options(&mut page);
+    let _ = writeln!(page, ".SH EXIT STATUS\n{}", lines(exit_status()));
+    page
+}
+
+/// The name, and in a line what it is: the first of the help.
+fn write_head(page: &mut String) {
     let version = env!("CARGO_PKG_VERSION");
-    let mut paragraphs = help::ALL.trim_end().split("\n\n");
-    let title = paragraphs.next().unwrap_or("");
-    let mut title: String = title.trim_end_matches('.').to_string();
+    let mut title = help::ALL.lines().next().unwrap_or_default().trim_end_matches('.').to_string();
     title[..1].make_ascii_lowercase();
     let _ = writeln!(page, ".TH NAVORZIM 1 \"\" \"navorzim {version}\" \"User Commands\"\n.nh\n.ad l");
     let _ = writeln!(page, ".SH NAME\nnavorzim \\- {}", text(&title));
+}
+
+fn write_synopsis(page: &mut String) {
+    let commands = COMMANDS.iter().flat_map(|command| usage::lines(command.help));
     let _ = writeln!(page, ".SH SYNOPSIS\n.nf");
-    for line in COMMANDS.iter().flat_map(|command| usage::lines(command.help)) {
+    for line in commands.chain(["navorzim help [COMMAND]", "navorzim --help", "navorzim --version"]) {
         let _ = writeln!(page, "{}", marked(line));
     }
-    for line in ["navorzim help [COMMAND]", "navorzim --help", "navorzim --version"] {
-        let _ = writeln!(page, "{}", marked(line));
-    }
-    let _ = writeln!(page, ".fi\n.SH DESCRIPTION");
-    let mut exit_status = "";
-    for paragraph in paragraphs.filter(|paragraph| !paragraph.starts_with("usage: ")) {
-        match paragraph.strip_prefix("Exit status: ") {
-            Some(said) => exit_status = said,
-            None => write_paragraph(&mut page, paragraph),
+    let _ = writeln!(page, ".fi");
+}
+
+/// The paragraphs of the help but its title, the usage and the exit status, which stand elsewhere on the page.
+fn write_description(page: &mut String) {
+    let _ = writeln!(page, ".SH DESCRIPTION");
+    for paragraph in help_paragraphs().skip(1) {
+        if !paragraph.starts_with("usage: ") && !paragraph.starts_with(EXIT_STATUS) {
+            write_paragraph(page, paragraph);
         }
     }
+}
+
+fn write_commands(page: &mut String) {
     let _ = writeln!(page, ".SH COMMANDS");
     for command in COMMANDS {
         let _ = writeln!(page, ".SS navorzim {}", command.name);
         for paragraph in command.help.trim_end().split("\n\n") {
-            write_paragraph(&mut page, paragraph);
+            write_paragraph(page, paragraph);
         }
     }
-    let _ = writeln!(page, ".SH OPTIONS\nThese go with every command.");
-    for (option, said) in [
-        ("-h, --help", "says how the command is used"),
-        ("-V, --version", "in place of a command: prints the version"),
-        ("-o FILE, --output FILE", "two names of one option: where the command writes"),
-    ] {
-        write_term(&mut page, option, said);
+}
+
+fn write_options(page: &mut String) {
+    let _ = writeln!(page, ".SH OPTIONS\nThese go with more than one command.");
+    for (option, said) in OPTIONS {
+        write_term(page, option, said);
     }
-    let _ = writeln!(page, ".SH EXIT STATUS\n{}", lines(exit_status));
-    page
+    for (option, value, said) in usage::SHARED {
+        write_term(page, &format!("{option} {value}"), said);
+    }
+}
+
+const EXIT_STATUS: &str = "Exit status: ";
+
+fn exit_status() -> &'static str {
+    help_paragraphs().find_map(|paragraph| paragraph.strip_prefix(EXIT_STATUS)).unwrap_or_default()
+}
+
+fn help_paragraphs() -> impl Iterator<Item = &'static str> {
+    help::ALL.trim_end().split("\n\n")
 }
 
 /// A paragraph of a help text: usage, examples, or text with or without a list.
@@ -55,11 +88,7 @@ fn write_paragraph(page: &mut String, paragraph: &'static str) {
         return;
     }
     if paragraph.starts_with("example: ") {
-        let examples = paragraph.lines().map(|line| text(line.trim_start_matches("example: ")));
-        let heading = if paragraph.lines().count() == 1 { "Example:" } else { "Examples:" };
-        let _ =
-            writeln!(page, ".PP\n{heading}\n.PP\n.nf\n.RS 4\n{}\n.RE\n.fi", examples.collect::<Vec<_>>().join("\n"));
-        return;
+        return write_examples(page, paragraph);
     }
     let mut begun = false;
     for line in paragraph.lines() {
@@ -74,6 +103,12 @@ fn write_paragraph(page: &mut String, paragraph: &'static str) {
         }
         begun = true;
     }
+}
+
+fn write_examples(page: &mut String, paragraph: &str) {
+    let examples: Vec<String> = paragraph.lines().map(|line| text(line.trim_start_matches("example: "))).collect();
+    let heading = if examples.len() == 1 { "Example:" } else { "Examples:" };
+    let _ = writeln!(page, ".PP\n{heading}\n.PP\n.nf\n.RS 4\n{}\n.RE\n.fi", examples.join("\n"));
 }
 
 fn write_term(page: &mut String, term: &str, said: &str) {
@@ -114,4 +149,24 @@ fn marked(line: &str) -> String {
 /// Letters that the page's language would read as its own.
 fn plain(piece: &str) -> String {
     piece.replace('\\', "\\e").replace('-', "\\-").replace('×', "\\(mu")
+}
+
+#[cfg(test)]
+mod tests {
+    use super::{marked, page};
+    use crate::commands::COMMANDS;
+    use crate::usage;
+
+    /// Of each option of the table the page has what it is called, with its value.
+    #[test]
+    fn the_page_has_every_command_and_option_of_the_table() {
+        let page = page();
+        for command in COMMANDS {
+            assert!(page.contains(&format!(".SS navorzim {}\n", command.name)), "{}", command.name);
+            for (option, value) in usage::options(command) {
+                let shown = marked(&[option, value.unwrap_or_default()].join(" "));
+                assert!(page.contains(shown.trim_end()), "{} {option}", command.name);
+            }
+        }
+    }
 }

@@ -1,7 +1,7 @@
 //! The help texts, taken apart: usage lines as words and options, and what stands in lists. The man page and the completions are made
 //! of these, so that they say what help says.
 use crate::arguments::takes_value;
-use crate::commands::Command;
+use crate::commands::{Command, COMMANDS};
 use crate::help;
 
 /// What a usage line is made of, in its order.
@@ -24,12 +24,16 @@ pub enum Kind {
     Numbers,
 }
 
+/// Options of many commands that help explains once and no usage line has: their value, and what they are for.
+pub const SHARED: &[(&str, &str, &str)] =
+    &[("--wait", "SECONDS", "waits up to so many seconds for a file that somebody else has locked")];
+
 /// What a name in capital letters stands for; none for a name that no usage line has.
 pub fn kind(name: &str) -> Option<Kind> {
     match name {
         "CODE" | "DATA" | "FILE" | "OUT" | "PLAN" | "STRIPES" => Some(Kind::File),
         "ARRAY" | "DIR" => Some(Kind::Folder),
-        "BYTES" | "DISK" | "DISKS" | "K" | "L" | "LIST" | "P" | "R" | "W" => Some(Kind::Numbers),
+        "BYTES" | "DISK" | "DISKS" | "K" | "L" | "LIST" | "P" | "R" | "SECONDS" | "W" => Some(Kind::Numbers),
         _ => None,
     }
 }
@@ -65,10 +69,11 @@ fn line_items(line: &'static str) -> Vec<Item> {
 pub fn options(command: &Command) -> Vec<(&'static str, Option<&'static str>)> {
     let items: Vec<Item> = items(command).into_iter().flatten().collect();
     let value = |name| {
-        items.iter().find_map(|item| match item {
+        let shown = items.iter().find_map(|item| match item {
             Item::Option(named, value) if *named == name => *value,
             _ => None,
-        })
+        });
+        shown.or_else(|| SHARED.iter().find_map(|(named, value, _)| (*named == name).then_some(*value)))
     };
     command.options.iter().map(|name| (*name, value(*name))).collect()
 }
@@ -90,28 +95,44 @@ pub fn words(command: &Command) -> Vec<Vec<Item>> {
     places
 }
 
-/// What help says a command does, in a line.
-pub fn summary(command: &Command) -> &'static str {
-    let mut listed = terms(help::ALL).into_iter();
-    listed.find_map(|(term, said)| (term == command.name).then_some(said)).unwrap_or("")
+/// What help says a command does.
+pub fn summary(command: &Command) -> String {
+    let mut listed = entries(help::ALL).into_iter();
+    listed.find_map(|(term, said)| (term == command.name).then_some(said)).unwrap_or_default()
 }
 
-/// What an option is for, up to the first stop; for those that many commands share, said here.
-pub fn purpose(command: &Command, option: &str) -> &'static str {
-    let listed = terms(command.help).into_iter().find(|(term, _)| term.split(' ').next() == Some(option));
-    match (listed, option) {
-        (Some((_, said)), _) => said.split([':', ';', '.']).next().unwrap_or(said),
-        (None, "-o") => "where it is written",
-        (None, "--symbol") => "the bytes of a symbol",
-        (None, "--in-place") => "replaces STRIPES",
-        (None, "--keep") => "works in this folder, and leaves it",
-        _ => "",
+/// What an option is for, up to the first stop: as the command's help says it, or that of another command, or as it is said here.
+pub fn purpose(command: &Command, option: &str) -> String {
+    let listed = |command: &Command| {
+        let mut entries = entries(command.help).into_iter();
+        entries.find_map(|(term, said)| (term.split(' ').next() == Some(option)).then_some(said))
+    };
+    let said = listed(command).or_else(|| COMMANDS.iter().find_map(listed));
+    let said = said.unwrap_or_else(|| said_here(option).to_string());
+    said.split([':', ';', '.']).next().unwrap_or_default().to_string()
+}
+
+fn said_here(option: &str) -> &'static str {
+    match option {
+        "-o" => "where it is written",
+        "--symbol" => "the bytes of a symbol",
+        "--in-place" => "replaces STRIPES",
+        "--keep" => "works in this folder, and leaves it",
+        _ => SHARED.iter().find_map(|(named, _, said)| (*named == option).then_some(*said)).unwrap_or_default(),
     }
 }
 
-/// The lines of a text's lists: a term and the first line of what is said of it.
-fn terms(text: &'static str) -> Vec<(&'static str, &'static str)> {
-    text.lines().filter_map(term).collect()
+/// The entries of a text's lists: a term and what is said of it, in one line.
+fn entries(text: &'static str) -> Vec<(&'static str, String)> {
+    let mut entries: Vec<(&str, String)> = Vec::new();
+    for line in text.lines() {
+        match (term(line), entries.last_mut()) {
+            (Some((term, said)), _) => entries.push((term, said.to_string())),
+            (None, Some((_, said))) if line.starts_with("   ") => *said += &format!(" {}", line.trim_start()),
+            _ => {}
+        }
+    }
+    entries
 }
 
 /// A line that begins an entry of a list: `  term  what is said`, or an option and its value with what is said of it.
@@ -128,22 +149,32 @@ pub fn term(line: &'static str) -> Option<(&'static str, &'static str)> {
 
 #[cfg(test)]
 mod tests {
-    use super::{items, kind, options, purpose, summary, Item};
+    use super::{items, kind, options, purpose, summary, Item, SHARED};
+    use crate::arguments::takes_value;
     use crate::commands::COMMANDS;
+    use crate::help;
     use std::collections::BTreeSet;
 
     #[test]
     fn usage_lines_have_the_options_of_the_table() {
         for command in COMMANDS {
-            let named: BTreeSet<&str> = items(command)
-                .into_iter()
-                .flatten()
-                .filter_map(|item| match item {
-                    Item::Option(name, _) => Some(name),
-                    _ => None,
-                })
-                .collect();
-            assert_eq!(named, command.options.iter().copied().collect(), "{}", command.name);
+            let named = items(command).into_iter().flatten().filter_map(|item| match item {
+                Item::Option(name, _) => Some(name),
+                _ => None,
+            });
+            let shared = SHARED.iter().map(|(name, ..)| *name).filter(|name| command.options.contains(name));
+            let all: BTreeSet<&str> = named.chain(shared).collect();
+            assert_eq!(all, command.options.iter().copied().collect(), "{}", command.name);
+        }
+        for (name, value, _) in SHARED {
+            assert!(help::ALL.contains(&format!("{name} {value}")), "{name}");
+        }
+    }
+
+    #[test]
+    fn an_option_has_a_value_if_its_usage_line_shows_one() {
+        for (option, value) in COMMANDS.iter().flat_map(options) {
+            assert_eq!(value.is_some(), takes_value(option), "{option}");
         }
     }
 
