@@ -130,7 +130,8 @@
 #include <stddef.h>
 #include <stdint.h>
 
-/* The version of this header and of the library that it came with. Before 1.0.0 a change of the second number may change a call. */
+/* The version of this header and of the library that it came with. A call that is there changes only with the first number, or before
+ * 1.0.0 with the second: programs find the shared library by these. */
 #define NAVORZIM_VERSION_MAJOR 0
 #define NAVORZIM_VERSION_MINOR 1
 #define NAVORZIM_VERSION_PATCH 0
@@ -145,6 +146,15 @@
 #define NAVORZIM_ANSWER __attribute__((warn_unused_result))
 #else
 #define NAVORZIM_ANSWER
+#endif
+
+/* C before 1999 has no inline. */
+#if defined(__cplusplus) || (defined(__STDC_VERSION__) && __STDC_VERSION__ >= 199901L)
+#define NAVORZIM_INLINE static inline
+#elif defined(__GNUC__)
+#define NAVORZIM_INLINE static __inline__
+#else
+#define NAVORZIM_INLINE static
 #endif
 
 #ifdef __cplusplus
@@ -319,7 +329,7 @@ navorzim_verdict navorzim_look_up_verdict(const uint8_t *sheet, size_t sheet_len
 
 /* ---------------------------------------------------------------------------------------------------------------------------------
  * The sentence of a refusal's number, for a message; never NULL. What the place says is in the table above. */
-static inline const char *navorzim_reason(uint64_t number) {
+NAVORZIM_INLINE const char *navorzim_reason(uint64_t number) {
     switch (number) {
     case 0: return "nothing was refused";
     case 1: return "the code sheet is too short";

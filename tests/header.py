@@ -1,5 +1,5 @@
 """The header for C: it compiles without a warning as C and as C++ of every year, an answer that is thrown away is warned of, every number
-of its table has a sentence of its own, and its version is the crate's.
+of its table has a sentence of its own, its version is the crate's, and its calls are those that Rust and the tests from C know.
 
     python3 tests/header.py
 """
@@ -13,18 +13,21 @@ ROOT = Path(__file__).resolve().parent.parent
 HEADER = (ROOT / "include" / "navorzim.h").read_text()
 WARNINGS = ["-Wall", "-Wextra", "-Wpedantic", "-Wshadow", "-Werror", f"-I{ROOT / 'include'}"]
 COMPILERS = {
-    ("gcc", "clang"): ("c", ["c99", "c11", "c17", "c2x", "gnu99"]),
+    ("gcc", "clang"): ("c", ["c89", "c99", "c11", "c17", "c2x", "gnu89", "gnu99"]),
     ("g++", "clang++"): ("c++", ["c++98", "c++11", "c++14", "c++17", "c++20"]),
 }
 SHOW = """
 #include <navorzim.h>
 #include <stdio.h>
 int main(void) {
-    for (int number = 0; number < 100; number++) printf("%d %s\\n", number, navorzim_reason((uint64_t)number));
+    for (int number = 0; number < 1000; number++) printf("%d %s\\n", number, navorzim_reason((uint64_t)number));
+    printf("%s\\n%s\\n", navorzim_reason(UINT64_C(1) << 32 | 1), navorzim_reason(UINT64_MAX));
     printf("%d.%d.%d\\n%s\\n", NAVORZIM_VERSION_MAJOR, NAVORZIM_VERSION_MINOR, NAVORZIM_VERSION_PATCH, NAVORZIM_VERSION);
     return 0;
 }
 """
+KNOWING = ("rust/src/ffi.rs", "examples/c/nulls.c", "tests/c_interface.py")
+"""Files that have every call."""
 CALLS = re.findall(r"^navorzim_\w+ (navorzim_\w+)\(([^)]*)\);", HEADER, re.M)
 
 
@@ -43,7 +46,10 @@ def test_compilers() -> list[str]:
     """Answers those that were tried."""
     tried = []
     for names, (kind, years) in COMPILERS.items():
-        for compiler in filter(shutil.which, names):
+        for compiler in names:
+            if not shutil.which(compiler):
+                print(f"not tried, since there is no {compiler}: the header in {compiler}")
+                continue
             tried.append(compiler)
             for year in years:
                 once = compiled(compiler, kind, year, "#include <navorzim.h>\n#include <navorzim.h>\nint main(void) { return 0; }\n")
@@ -62,6 +68,17 @@ def test_answers() -> None:
         assert warned.returncode != 0 and "unused-result" in warned.stderr, f"{call}: {warned.stderr}"
 
 
+def test_calls() -> None:
+    """Nobody has forgotten a call, or kept one that is gone."""
+    calls = {call.removeprefix("navorzim_") for call, _ in CALLS}
+    for name in KNOWING:
+        text = (ROOT / name).read_text()
+        known = {word.removeprefix("navorzim_") for word in re.findall(r"\w+", text)}
+        assert calls <= known, f"{name} doesn't have {sorted(calls - known)}"
+        gone = set(re.findall(r"\bnavorzim_(\w+)\(", text)) - calls
+        assert not gone, f"{name} has {sorted(gone)}, which the header doesn't"
+
+
 def table() -> list[int]:
     """The numbers of the header's table."""
     rows = HEADER.split(" *   number  given when")[1].split("\n *\n")[0].splitlines()[1:]
@@ -74,12 +91,14 @@ def test_sentences_and_version() -> int:
         program = f"{folder}/show"
         made = compiled("gcc", "c", "c99", SHOW, "-o", program)
         assert made.returncode == 0, made.stderr
-        *lines, numbers, version = subprocess.run([program], capture_output=True, text=True, check=True).stdout.splitlines()
+        *lines, wide, widest, numbers, version = subprocess.run([program], capture_output=True, text=True, check=True).stdout.splitlines()
     said = dict(line.split(" ", 1) for line in lines)
     listed = table()
-    other = said.pop("99")
+    other = said["999"]
+    assert wide == widest == other and len(other) > 10
     assert listed and listed == sorted(listed)
-    assert all((said[str(number)] == other) == (number not in [0, *listed]) for number in range(99))
+    for number in range(1000):
+        assert (said[str(number)] == other) == (number not in [0, *listed]), f"{number}: {said[str(number)]}"
     assert len({said[str(number)] for number in listed}) == len(listed)
     assert numbers == version == re.search(r'^version = "(.*)"$', (ROOT / "rust/Cargo.toml").read_text(), re.M)[1]
     return len(listed)
@@ -88,4 +107,5 @@ def test_sentences_and_version() -> int:
 if __name__ == "__main__":
     tried = test_compilers()
     test_answers()
+    test_calls()
     print(f"the header: silent in {', '.join(tried)}, and {test_sentences_and_version()} refusals have a sentence")

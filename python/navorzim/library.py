@@ -4,7 +4,7 @@ from contextlib import ExitStack
 from ctypes import CDLL, POINTER, Structure, byref, c_char_p, c_int, c_size_t, c_ssize_t, c_uint64, c_void_p, py_object, pythonapi
 from operator import index
 from pathlib import Path
-from typing import Any, Iterable, Union
+from typing import Any, Iterable, Optional, Union
 
 NUMBER, READ, WRITTEN = "number", "read", "written"
 """What a call's parameters are: a number, bytes that it reads, or bytes that it writes. Bytes go as a pointer and a length."""
@@ -47,8 +47,8 @@ CALLS = {
 
 # The library
 
-LOADED_AS = "libnavorzim.so.0"
-"""The name by which the system's loader knows it."""
+LOADED_AS = "libnavorzim.so.0.1"
+"""The name by which the system's loader knows it: the soname that shared.sh gives it."""
 
 
 def load() -> CDLL:
@@ -62,9 +62,17 @@ def load() -> CDLL:
             function.restype = ANSWERS[answer]
             function.argtypes = [kind for parameter in parameters for kind in crossing(parameter)]
     except (OSError, AttributeError) as error:
-        looked = "named by NAVORZIM_LIBRARY" if named else f"looked for as {beside} and by the system's loader"
-        raise ImportError(f"the library of navorzim, {looked}, can't be used: {error}") from error
+        raise ImportError(f"the library of navorzim can't be used: {error}. {advice(named, beside)}", path=path) from error
     return library
+
+
+def advice(named: Optional[str], beside: Path) -> str:
+    """What helps where there is no library, or not the one of this package."""
+    if named:
+        return f"NAVORZIM_LIBRARY names it: {named}"
+    if beside.exists():
+        return f"It is {beside}; installing the package anew brings its own"
+    return f"There is no {beside}, and the system's loader didn't find {LOADED_AS}: name the file in NAVORZIM_LIBRARY, or run ldconfig"
 
 
 def crossing(parameter: str) -> "tuple[Any, ...]":
