@@ -17,8 +17,8 @@ Proves and builds what isn't built yet, and installs it under DIR, a path from t
   --prefix DIR   the folder that all of it goes to, like /usr/local
   --libdir DIR   the folder of the library, if it isn't PREFIX/lib
   --tool FILE    installs this tool, which is built already, and builds none
-  --uninstall    removes the files that an installation with the same words has written;
-                 folders stay
+  --uninstall    removes the files that an installation of this version with the same words has
+                 written; folders stay
 
 DESTDIR in the environment is put before every path, so that a package can be made of what is
 there; nothing that is written has it in itself. CC is the compiler that links libnavorzim.so.
@@ -58,7 +58,7 @@ while [ $# -gt 0 ]; do
     shift
 done
 [ -n "$prefix" ] || misuse "--prefix DIR is missing"
-libdir=${libdir:-$prefix/lib}
+libdir=${libdir:-${prefix%/}/lib}
 for folder in "$prefix" "$libdir"; do
     # a line of navorzim.pc ends at a line's end, and pkg-config takes words apart at spaces
     case $folder in
@@ -68,12 +68,15 @@ for folder in "$prefix" "$libdir"; do
     esac
 done
 
+prefix=${prefix%/} libdir=${libdir%/}
+
 version=$(sed -n 's/^#define NAVORZIM_VERSION "\(.*\)"$/\1/p' include/navorzim.h)
-soname=libnavorzim.so.${version%%.*}
+soname=$(sh shared.sh --soname)
 to=${DESTDIR:-}
+case $to in '' | /*) ;; *) to=$start/$to ;; esac
 header=$to$prefix/include/navorzim.h
 archive=$to$libdir/libnavorzim.a
-shared=$to$libdir/libnavorzim.so.$version
+shared=$to$libdir/libnavorzim.so
 package=$to$libdir/pkgconfig/navorzim.pc
 program=$to$prefix/bin/navorzim
 page=$to$prefix/share/man/man1/navorzim.1
@@ -81,24 +84,31 @@ bash=$to$prefix/share/bash-completion/completions/navorzim
 zsh=$to$prefix/share/zsh/site-functions/_navorzim
 fish=$to$prefix/share/fish/vendor_completions.d/navorzim.fish
 
+# The library's files of this version, and of those before it that have the same soname: no program asks for these.
+versions() { find "$to$libdir" -maxdepth 1 -name "$soname.[0-9]*" "$@" 2>/dev/null || :; }
+
 if [ -n "$uninstall" ]; then
-    rm -f "$header" "$archive" "$shared" "$to$libdir/$soname" "$to$libdir/libnavorzim.so" "$package" "$program" "$page" "$bash" "$zsh" "$fish"
+    versions -delete
+    rm -f "$header" "$archive" "$shared" "$to$libdir/$soname" "$package" "$program" "$page" "$bash" "$zsh" "$fish"
     exit
 fi
 
 # All of it is made in a folder of its own first, so that nothing is installed where something can't be made.
-made=$(mktemp -d)
-trap 'rm -rf "$made"' EXIT
-trap 'exit 1' HUP INT TERM
-sh shared.sh "$made/so" >"$made/log" 2>&1 || { cat "$made/log" && exit 1; }
+. ./progress.sh
+need rt
+prove_library
+apart sh shared.sh "$work/so"
 if [ -z "$tool" ]; then
-    (cd rust && cargo build --offline --release --quiet --target-dir target)
+    need cargo
+    if [ -t 2 ]; then show_line 'Building the tool ..'; fi
+    apart cargo build --offline --release --quiet --manifest-path rust/Cargo.toml --target-dir rust/target
+    clear_line
     tool=$PWD/rust/target/release/navorzim
 fi
 case $tool in /*) ;; *) tool=$start/$tool ;; esac
-"$tool" man >"$made/page"
-for shell in bash zsh fish; do "$tool" completions "$shell" >"$made/$shell"; done
-cat >"$made/pc" <<END
+"$tool" man >"$work/page"
+for shell in bash zsh fish; do "$tool" completions "$shell" >"$work/$shell"; done
+cat >"$work/pc" <<END
 prefix=$prefix
 libdir=$libdir
 includedir=\${prefix}/include
@@ -110,19 +120,31 @@ Cflags: -I\${includedir}
 Libs: -L\${libdir} -lnavorzim
 END
 
+# What is installed is for everybody. A file takes the old one's place whole: who uses that one meanwhile goes on with it.
+umask 022
+part=''
+trap '[ -z "$part" ] || rm -f "$part"; end' EXIT
 put() { # MODE FROM TO
-    mkdir -p "$(dirname "$3")"
-    install -m "$1" "$2" "$3"
+    mkdir -p "${3%/*}"
+    part=$3.part
+    install -m "$1" "$2" "$part"
+    mv -fT "$part" "$3"
+}
+link() { # NAME LINK
+    part=$2.part
+    ln -sf "$1" "$part"
+    mv -fT "$part" "$2"
 }
 put 644 include/navorzim.h "$header"
 put 644 target/staticlib/libcapi.a "$archive"
-put 755 "$made/so" "$shared"
-ln -sf "libnavorzim.so.$version" "$to$libdir/$soname"
-ln -sf "$soname" "$to$libdir/libnavorzim.so"
-put 644 "$made/pc" "$package"
+put 755 "$work/so" "$to$libdir/libnavorzim.so.$version"
+link "libnavorzim.so.$version" "$to$libdir/$soname"
+link "$soname" "$shared"
+versions ! -name "libnavorzim.so.$version" -delete
+put 644 "$work/pc" "$package"
 put 755 "$tool" "$program"
-put 644 "$made/page" "$page"
-put 644 "$made/bash" "$bash"
-put 644 "$made/zsh" "$zsh"
-put 644 "$made/fish" "$fish"
-echo "installed navorzim $version in $to$prefix"
+put 644 "$work/page" "$page"
+put 644 "$work/bash" "$bash"
+put 644 "$work/zsh" "$zsh"
+put 644 "$work/fish" "$fish"
+echo "installed navorzim $version in $to${prefix:-/}"

@@ -11,8 +11,10 @@ below_capi() {
     tac crates.txt | awk -F: '
         $1 == "capi" || $1 in needed { n = split($2, names, " "); for (i = 1; i <= n; i++) needed[names[i]]; if ($1 != "capi") print $1 }' | tac
 }
-case ${1:-} in
+case $* in
+'') ;;
 --crates) below_capi && echo capi && exit ;;
+*) echo "usage: sh library.sh [--crates]" >&2 && exit 2 ;;
 esac
 archive=target/staticlib/libcapi.a
 sources=$({ rt version && find crates.txt crates -type f -exec sha256sum {} + | LC_ALL=C sort; } | sha256sum)

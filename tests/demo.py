@@ -3,12 +3,16 @@ are stand-ins; rt works on until the test has read the line that it waits for.
 
     python3 tests/demo.py
 """
+import fcntl
 import os
 import pty
 import re
 import shutil
+import signal
+import struct
 import subprocess
 import tempfile
+import termios
 import time
 from pathlib import Path
 from typing import Callable, Iterator
@@ -28,7 +32,12 @@ check) shift; for crate; do prove "$crate" & done; wait; for crate; do cat "targ
 staticlib) wait_for capi-goes; echo archive >target/staticlib/libcapi.a ;;
 esac
 """
-CARGO = '#!/bin/sh\n[ "$1" = build ] || echo "cargo $*, in ${PWD##*/}"\n'
+CARGO = """#!/bin/sh
+case $1 in
+build) if [ -n "${SLOW:-}" ]; then : >"$TMPDIR/building" && sleep 60; fi ;;
+*) echo "cargo $*, in ${PWD##*/}" ;;
+esac
+"""
 SHOWN = "cargo run --offline --quiet --bin navorzim -- demo, in rust\n"
 AT_WORK = r"0 of 4 crates are proved, \d:\d\d, now first, second and 1 more"
 AT_LAST = r"3 of 4 crates are proved, \d:\d\d, now capi"
@@ -42,7 +51,7 @@ class House:
         self.root = Path(folder)
         for name in ("bin", "rust", "crates/capi", "target/log"):
             (self.root / name).mkdir(parents=True)
-        for name in ("demo.sh", "library.sh"):
+        for name in ("demo.sh", "progress.sh", "library.sh"):
             shutil.copy(ROOT / name, self.root)
         (self.root / "crates.txt").write_text("# floors\nfirst:\nsecond:\nthird:\nother: first\ncapi: first second third\n")
         (self.root / "crates/capi/text").write_text("")
@@ -64,25 +73,31 @@ class House:
 
     def elsewhere(self, **variables: str) -> "tuple[int, str, str]":
         """The status, what it says and what it says aside."""
-        child = subprocess.Popen(self.script, env={**self.environment, **variables}, cwd="/", stdout=subprocess.PIPE, stderr=subprocess.PIPE)
+        child = self.begun(**variables)
         aside = watched(child.stderr.fileno(), self.steps())
         out, rest = child.communicate()
         return child.returncode, out.decode(), aside + rest.decode()
 
-    def at_terminal(self, steps: "list[tuple[str, Callable[[int], object]]]") -> "tuple[int, str]":
-        """The status and all that the terminal was sent."""
+    def begun(self, **variables: str) -> "subprocess.Popen[bytes]":
+        """The script, at no terminal."""
+        environment = {**self.environment, **variables}
+        return subprocess.Popen(self.script, env=environment, cwd="/", stdout=subprocess.PIPE, stderr=subprocess.PIPE)
+
+    def at_terminal(self, steps: "list[tuple[str, Callable[[int], object]]]", columns: int = 0) -> "tuple[int, str]":
+        """The status and all that the terminal was sent, which may not say how wide it is."""
         child, terminal = pty.fork()
         if child == 0:
             os.execve(self.script[0], self.script, self.environment)
+        fcntl.ioctl(terminal, termios.TIOCSWINSZ, struct.pack("4H", 24, columns, 0, 0))
         sent = watched(terminal, steps)
         _, status = os.waitpid(child, 0)
         os.close(terminal)
         return os.waitstatus_to_exitcode(status), sent
 
     def processes(self) -> int:
-        """How many stand-ins are still at work, once those that were told to end had the time."""
+        """How many processes of the script are still there, once those that were told to end had the time."""
         for _ in range(50):
-            count = sum(str(self.root).encode() in command for command in commands())
+            count = sum(f"TMPDIR={self.root}".encode() in variables for variables in environments())
             if count == 0:
                 break
             time.sleep(0.1)
@@ -93,9 +108,9 @@ class House:
         return [path.name for path in self.root.iterdir() if path.name.startswith("tmp.")]
 
 
-def commands() -> "Iterator[bytes]":
-    """The command lines of all processes."""
-    for path in Path("/proc").glob("[0-9]*/cmdline"):
+def environments() -> "Iterator[bytes]":
+    """The environments of all processes that can be looked at."""
+    for path in Path("/proc").glob("[0-9]*/environ"):
         try:
             yield path.read_bytes()
         except OSError:  # it has ended
@@ -151,20 +166,40 @@ def test_interrupted(house: House) -> None:
     assert house.processes() == 0
 
 
+def test_narrow(house: House) -> None:
+    """A line that is wider than the terminal would go on in the next, and stay."""
+    steps = [(r"0 of 4 crates are proved, \d:\d\d, now\x1b", house.goes("crates-go")), (r"3 of 4 [a-z ]*, \d:\d\d, now\x1b", house.goes("capi-goes"))]
+    status, sent = house.at_terminal(steps, columns=len("0 of 4 crates are proved, 0:00, now") + 1)
+    assert status == 0 and re.search(PROVED, sent.replace("\r\n", "\n")), sent
+
+
 def test_ended(house: House) -> None:
-    child = subprocess.Popen(house.script, env=house.environment, cwd="/", stdout=subprocess.PIPE, stderr=subprocess.PIPE)
-    watched(child.stderr.fileno(), [(AT_WORK, lambda _: child.terminate())])
+    for number, expected in ((signal.SIGTERM, 143), (signal.SIGHUP, 129), (signal.SIGQUIT, 131)):
+        child = house.begun()
+        watched(child.stderr.fileno(), [(AT_WORK, lambda _: child.send_signal(number))])
+        child.communicate()
+        assert child.returncode == expected and house.processes() == 0, (number, child.returncode)
+
+
+def test_ended_while_building(house: House) -> None:
+    for name in ("crates-go", "capi-goes"):
+        house.goes(name)(0)
+    child = house.begun(SLOW="yes")
+    while not (house.root / "building").exists():
+        time.sleep(0.1)
+    child.terminate()
     child.communicate()
-    assert child.returncode == 130 and house.processes() == 0, child.returncode
+    assert child.returncode == 143 and house.processes() == 0, child.returncode
 
 
 def main() -> None:
-    for test in (test_elsewhere, test_refused, test_terminal, test_interrupted, test_ended):
+    tests = (test_elsewhere, test_refused, test_terminal, test_narrow, test_interrupted, test_ended, test_ended_while_building)
+    for test in tests:
         with tempfile.TemporaryDirectory() as folder:
             house = House(folder)
             test(house)
             assert house.left() == [], house.left()
-    print("demo.sh: says how far it is, at a terminal and elsewhere")
+    print("demo.sh: says how far it is, at a terminal and elsewhere, and ends with all that it started")
 
 
 if __name__ == "__main__":
