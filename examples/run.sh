@@ -14,5 +14,6 @@ sh shared.sh target/libnavorzim.so
 python3 tests/c_interface.py target/libnavorzim.so
 export NAVORZIM_LIBRARY=target/libnavorzim.so PYTHONPATH=python
 python3 examples/python/rebuild.py
-python3 -W error -m unittest discover -s python/tests >target/python.log 2>&1 || { cat target/python.log; exit 1; }
+python3 -W error -m unittest discover -v -s python/tests >target/python.log 2>&1 || { cat target/python.log; exit 1; }
+sed -n "s/^\(.*\) [.][.][.] skipped '\(.*\)'$/not tried, since \2: \1/p" target/python.log
 echo "the Python package: $(sed -n 's/^Ran //p' target/python.log)"

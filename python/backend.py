@@ -69,8 +69,11 @@ class UnsupportedOperation(Exception):
 
 def linked() -> bytes:
     """The shared library."""
+    script = HERE.parent / "shared.sh"
+    if not script.exists():
+        raise RuntimeError(f"the library is built in the repository, and there is no {script}; pip before 21.3 builds elsewhere")
     with tempfile.TemporaryDirectory() as folder:
-        made = subprocess.run(["sh", str(HERE.parent / "shared.sh"), f"{folder}/so"], stdout=subprocess.PIPE, stderr=subprocess.STDOUT, text=True)
+        made = subprocess.run(["sh", str(script), f"{folder}/so"], stdout=subprocess.PIPE, stderr=subprocess.STDOUT, text=True)
         if made.returncode != 0:
             raise RuntimeError(f"the library can't be built:\n{made.stdout}")
         return Path(f"{folder}/so").read_bytes()

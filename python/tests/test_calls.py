@@ -3,10 +3,11 @@
     sh shared.sh target/libnavorzim.so
     NAVORZIM_LIBRARY=target/libnavorzim.so PYTHONPATH=python python3 -m unittest discover -s python/tests
 
-What a call is lent lies between guard bytes, at an odd place, and those must stay.
+What a call is lent lies between guard bytes, at an odd place, and those must stay. At the end every call of the library must have been asked.
 """
 import sys
 import unittest
+import unittest.mock
 from itertools import combinations
 from pathlib import Path
 from typing import Any, Callable, Optional, Union
@@ -19,7 +20,28 @@ from second_checker import check, plan_sheet, set_sheet
 from second_planner import SET_BUFFER, Wish, can_be_rebuilt, for_disk, for_disks, judge_pattern, judge_plan, planning_refusal
 from second_rebuild import rebuild
 
-from navorzim import Code, NoPlan, Plan, Refused
+import navorzim.code
+from navorzim import Code, NoPlan, Plan, Refused, library
+
+ASKED: "set[str]" = set()
+"""The calls of the library that were asked."""
+
+
+def ask(call: str, *given: Any) -> Any:
+    ASKED.add(call)
+    return library.ask(call, *given)
+
+
+def setUpModule() -> None:
+    patch = unittest.mock.patch.object(navorzim.code, "ask", ask)
+    patch.start()
+    unittest.addModuleCleanup(patch.stop)
+
+
+def tearDownModule() -> None:
+    forgotten = sorted(set(library.CALLS) - ASKED)
+    assert not forgotten, f"no method of Code that is tested here asks {forgotten}"
+
 
 KINDS = (bytes, bytearray, memoryview)
 FAR = (-1, 255, 256, 2**32, 2**63, 2**64 - 1, 2**64, 2**64 + 1, 2**70)

@@ -1,5 +1,5 @@
-"""The package around the calls: types, bytes that are lent and not copied, the examples of its documentation, the header's sentences and
-version, how the library is found, and the installation by pip."""
+"""The package around the calls: types, bytes that are lent and not copied, the examples of its documentation, the header's calls, sentences
+and version, how the library is found, and the installation by pip."""
 import array
 import doctest
 import mmap
@@ -13,6 +13,8 @@ import tempfile
 import threading
 import tracemalloc
 import unittest
+from ctypes import CDLL
+from ctypes.util import find_library
 from pathlib import Path
 from typing import Any, Callable, Optional
 
@@ -29,6 +31,17 @@ def load_tests(_loader: unittest.TestLoader, tests: unittest.TestSuite, _pattern
     for module in ("navorzim", "navorzim.code", "navorzim.plans", "navorzim.refusals"):
         tests.addTests(doctest.DocTestSuite(module))
     return tests
+
+
+USE = "from navorzim import Code, library; print(Code.evenodd(3).plan(0).reads, library.LIBRARY._name)"
+
+
+def run(*words: str, **environment: Optional[str]) -> "tuple[int, str]":
+    """Runs a program outside of the repository, with only these variables changed."""
+    kept = {name: value for name, value in os.environ.items() if not name.startswith(("NAVORZIM", "PYTHON", "LD_", "PIP"))}
+    kept.update({name: value for name, value in environment.items() if value is not None})
+    ran = subprocess.run(words, env=kept, cwd="/", stdout=subprocess.PIPE, stderr=subprocess.STDOUT, text=True)
+    return ran.returncode, ran.stdout
 
 
 class Types(unittest.TestCase):
@@ -79,6 +92,21 @@ class Types(unittest.TestCase):
         ):
             self.assertRaises(TypeError, wrong)
         self.assertEqual(stripe, bytes(8))
+
+    def test_bytes_that_are_given_back_are_refused(self) -> None:
+        released, closed = memoryview(bytearray(8)), mmap.mmap(-1, 8)
+        released.release()
+        closed.close()
+        for lent in (released, closed):
+            self.assertRaises(ValueError, self.code.rebuild, 0, self.code.plan(0), 1, lent)
+            self.assertRaises(ValueError, self.code.strip, 0, 1, lent)
+
+    def test_bytes_are_lent_for_a_call_only(self) -> None:
+        stripe = bytearray(8)
+        self.code.rebuild(0, self.code.plan(0), 1, stripe)
+        self.assertRaises(Refused, self.code.rebuild, 0, b"", 1, stripe)
+        self.assertRaises(TypeError, self.code.rebuild, 0, None, 1, stripe)
+        stripe.append(0)  # a BufferError while somebody holds them
 
     def test_overlapping_bytes_are_refused(self) -> None:
         room = memoryview(bytearray(range(12)))
@@ -182,6 +210,18 @@ class Header(unittest.TestCase):
             self.assertTrue(str(Refused(number, 65)).startswith(f"refused {number} at 65: {said[number]}"))
         self.assertEqual(str(Refused(99, 3)), "refused 99 at 3: a refusal that has no sentence here")
 
+    def test_places(self) -> None:
+        """Each number for which the header's table names a place, as the title's last word has it, says here what that is."""
+        title, *rows = HEADER[HEADER.index(" *   number  given when") :].split("\n *\n")[0].splitlines()
+        number, named = 0, set()
+        for row in rows:
+            number = int((re.findall(r"\d+", row[3:11]) or [number])[-1])
+            if row[title.index("place") :].strip():
+                named.add(number)
+        self.assertEqual(set(refusals.PLACES), named)
+        for number in named:
+            self.assertNotEqual(str(Refused(number, 64)).replace("at 64", ""), str(Refused(number, 129)).replace("at 129", ""))
+
     def test_a_wanted_symbol_is_named_by_the_edition(self) -> None:
         code = Code.row_diagonal(3)
         for plan, disks, said in (
@@ -195,7 +235,7 @@ class Header(unittest.TestCase):
 
     def test_version(self) -> None:
         self.assertEqual(re.search('^#define NAVORZIM_VERSION "(.*)"$', HEADER, re.M)[1], navorzim.__version__)
-        self.assertEqual(library.LOADED_AS, f"libnavorzim.so.{navorzim.__version__.split('.')[0]}")
+        self.assertEqual(run("sh", str(PYTHON.parent / "shared.sh"), "--soname"), (0, library.LOADED_AS + "\n"))
         self.assertIn(library.LOADED_AS.encode() + b"\0", Path(BUILT).read_bytes())
 
     def test_calls(self) -> None:
@@ -210,17 +250,6 @@ class Header(unittest.TestCase):
     def test_answers(self) -> None:
         structs = re.findall(r"typedef struct \{\s*uint64_t ([\w, ]+);\s*\} navorzim_(\w+);", HEADER)
         self.assertEqual(library.FIELDS, {name: tuple(fields.split(", ")) for fields, name in structs})
-
-
-USE = "from navorzim import Code, library; print(Code.evenodd(3).plan(0).reads, library.LIBRARY._name)"
-
-
-def run(*words: str, **environment: Optional[str]) -> "tuple[int, str]":
-    """Runs a program outside of the repository, with only these variables changed."""
-    kept = {name: value for name, value in os.environ.items() if not name.startswith(("NAVORZIM", "PYTHON", "LD_", "PIP"))}
-    kept.update({name: value for name, value in environment.items() if value is not None})
-    ran = subprocess.run(words, env=kept, cwd="/", stdout=subprocess.PIPE, stderr=subprocess.STDOUT, text=True)
-    return ran.returncode, ran.stdout
 
 
 class Finding(unittest.TestCase):
@@ -244,41 +273,82 @@ class Finding(unittest.TestCase):
 
     def test_by_the_loader(self) -> None:
         (self.folder / "lib").mkdir()
-        shutil.copy(BUILT, self.folder / "lib" / "libnavorzim.so.0")
-        self.assertEqual(self.use(LD_LIBRARY_PATH=str(self.folder / "lib")), (0, "6 libnavorzim.so.0\n"))
+        shutil.copy(BUILT, self.folder / "lib" / library.LOADED_AS)
+        self.assertEqual(self.use(LD_LIBRARY_PATH=str(self.folder / "lib")), (0, f"6 {library.LOADED_AS}\n"))
 
-    def test_none_or_another(self) -> None:
-        shutil.copy(BUILT, self.folder / "navorzim" / "libnavorzim.so")
+    def test_none(self) -> None:
+        status, said = self.use()
+        self.assertTrue(status == 1 and "ImportError" in said and library.LOADED_AS in said and "NAVORZIM_LIBRARY" in said, said)
+
+    def test_another(self) -> None:
         (self.folder / "text").write_text("no library")
-        libc = "libc.so.6"
-        for named in (self.folder / "missing", self.folder / "text"):
-            status, said = self.use(NAVORZIM_LIBRARY=str(named))
-            self.assertTrue(status == 1 and "ImportError" in said and "named by NAVORZIM_LIBRARY" in said and str(named) in said, said)
-        os.symlink(next(iter(Path("/").glob(f"lib/*/{libc}")), f"/lib/{libc}"), self.folder / libc)
-        status, said = self.use(NAVORZIM_LIBRARY=str(self.folder / libc))
+        for named in ("missing", "text"):
+            status, said = self.use(NAVORZIM_LIBRARY=str(self.folder / named))
+            self.assertTrue(status == 1 and "ImportError" in said and f"NAVORZIM_LIBRARY names it: {self.folder / named}" in said, said)
+        # a library that has none of the calls
+        status, said = self.use(NAVORZIM_LIBRARY=shared_object("libm"))
         self.assertTrue(status == 1 and "ImportError" in said and "navorzim_" in said, said)
 
 
-@unittest.skipIf(run(sys.executable, "-m", "pip", "--version")[0] != 0, "there is no pip")
+def shared_object(name: str) -> str:
+    """The file of a library that every program here can load."""
+    CDLL(find_library(name.removeprefix("lib")))
+    return next(line.split()[-1] for line in Path("/proc/self/maps").read_text().splitlines() if f"/{name}" in line)
+
+
+class Typing(unittest.TestCase):
+    def test_types(self) -> None:
+        if not shutil.which("mypy"):
+            self.skipTest("there is no mypy")
+        with tempfile.TemporaryDirectory() as folder:
+            words = ("mypy", "--strict", "--no-error-summary", f"--cache-dir={folder}", str(PYTHON / "navorzim"), str(PYTHON / "backend.py"))
+            self.assertEqual(run(*words), (0, ""))
+
+
 class Installing(unittest.TestCase):
-    def install(self, folder: str, *words: str) -> None:
-        quiet = ("--quiet", "--disable-pip-version-check", "--no-cache-dir", "--root-user-action=ignore")
-        status, said = run(sys.executable, "-m", "pip", "install", *quiet, "--no-index", "--no-deps", "--target", folder, *words, str(PYTHON))
+    """By pip, in a new environment, with nothing fetched."""
+
+    @classmethod
+    def setUpClass(cls) -> None:
+        folder: Any = tempfile.TemporaryDirectory()
+        cls.addClassCleanup(folder.cleanup)
+        cls.python = f"{folder.name}/bin/python"
+        if run(sys.executable, "-m", "venv", folder.name)[0] != 0:
+            raise unittest.SkipTest("there is no venv with pip")
+
+    def pip(self, *words: str) -> "tuple[int, str]":
+        return run(self.python, "-m", "pip", *words, PIP_NO_INDEX="1", PIP_DISABLE_PIP_VERSION_CHECK="1")
+
+    def install(self, *words: str) -> None:
+        self.assertEqual(self.pip("install", "--quiet", *words, str(PYTHON)), (0, ""))
+        self.addCleanup(self.pip, "uninstall", "--yes", "navorzim")
+
+    def installed(self) -> Path:
+        """The package's folder."""
+        status, said = run(self.python, "-c", "from importlib.util import find_spec; print(find_spec('navorzim').origin)")
         self.assertEqual(status, 0, said)
+        return Path(said.strip()).parent
 
     def test_with_the_library_inside(self) -> None:
-        with tempfile.TemporaryDirectory() as folder:
-            self.install(folder, "--no-build-isolation")
-            self.assertEqual(run(sys.executable, "-c", USE, PYTHONPATH=folder), (0, f"6 {folder}/navorzim/libnavorzim.so\n"))
-            self.assertTrue((Path(folder) / "navorzim" / "py.typed").exists())
-            said = run(sys.executable, "-c", "from importlib.metadata import version; print(version('navorzim'))", PYTHONPATH=folder)
-            self.assertEqual(said, (0, f"{navorzim.__version__}\n"))
+        self.install()
+        package = self.installed()
+        self.assertEqual(run(self.python, "-c", USE), (0, f"6 {package}/libnavorzim.so\n"))
+        self.assertTrue((package / "py.typed").exists())
+        said = run(self.python, "-c", "from importlib.metadata import version; print(version('navorzim'))")
+        self.assertEqual(said, (0, f"{navorzim.__version__}\n"))
+        self.assertEqual(self.pip("uninstall", "--quiet", "--yes", "navorzim"), (0, ""))
+        self.assertFalse(package.exists())
 
     def test_with_the_systems_library(self) -> None:
+        self.install("--config-settings", "library=system")
+        self.assertFalse((self.installed() / "libnavorzim.so").exists())
+        self.assertEqual(run(self.python, "-c", USE, NAVORZIM_LIBRARY=BUILT), (0, f"6 {BUILT}\n"))
+
+    def test_away_from_the_repository(self) -> None:
         with tempfile.TemporaryDirectory() as folder:
-            self.install(folder, "--config-settings", "library=system")
-            self.assertFalse((Path(folder) / "navorzim" / "libnavorzim.so").exists())
-            self.assertEqual(run(sys.executable, "-c", USE, PYTHONPATH=folder, NAVORZIM_LIBRARY=BUILT), (0, f"6 {BUILT}\n"))
+            shutil.copytree(PYTHON, f"{folder}/python", ignore=shutil.ignore_patterns("__pycache__"))
+            status, said = self.pip("install", f"{folder}/python")
+        self.assertTrue(status == 1 and "is built in the repository" in said, said)
 
 
 if __name__ == "__main__":
