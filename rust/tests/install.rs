@@ -332,11 +332,14 @@ fn zsh_completes_a_line() {
         ("restore --dr", "restore --dry-run"),
         ("family eve", "family evenodd"),
         ("plan cod", "plan code.sheet"),
+        ("plan --want=0 cod", "plan --want=0 code.sheet"),
+        ("plan --want 0 cod", "plan --want 0 code.sheet"),
+        ("demo --keep=arr", "demo --keep=array/"),
     ] {
         let mut zsh = Command::new("timeout");
         zsh.args(["60", "zsh", "-f", "-c", ZSH_TYPED, "zsh", line]).current_dir(&folder.0).env("ZDOTDIR", &folder.0);
         let found = said(&mut zsh);
-        assert!(found.contains(&format!("<navorzim {all} >")), "{line}: {found:?}");
+        assert!(found.contains(&format!("<navorzim {all}")), "{line}: {found:?}");
     }
 }
 

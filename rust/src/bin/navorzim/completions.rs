@@ -158,7 +158,9 @@ fn write_zsh_command(script: &mut String, command: &Command) {
         let names = spellings(option);
         let others = if names.len() > 1 { format!("({})", names.join(" ")) } else { String::new() };
         for name in names {
-            let _ = write!(script, " \\\n            {}", quoted(&format!("{others}{name}[{said}]{value}")));
+            // --name VALUE and --name=VALUE
+            let equals = if name.starts_with("--") && !value.is_empty() { "=" } else { "" };
+            let _ = write!(script, " \\\n            {}", quoted(&format!("{others}{name}{equals}[{said}]{value}")));
         }
     }
     for (place, words) in usage::words(command).iter().enumerate() {
