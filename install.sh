@@ -24,7 +24,7 @@ DESTDIR in the environment is put before every path, so that a package can be ma
 there; nothing that is written has it in itself. CC is the compiler that links libnavorzim.so.
 
 Programs find the library when they start if the folder is one of the loader's: run ldconfig once,
-or set LD_LIBRARY_PATH.
+or set LD_LIBRARY_PATH. pkg-config looks in its own folders, and in those of PKG_CONFIG_PATH.
 END
 }
 
