@@ -78,7 +78,10 @@ passed() { seconds=$(($(date +%s) - began)) && printf '%d:%02d' $((seconds / 60)
 
 # The crates of this run, by rt's logs: a crate has one from its start on, and at its end a line in it. -l names those that are proved, -L
 # those that are at work.
-logs() { find target/log -name '*.out' -newer "$work/start" -exec grep "$1" '^rt: [a-z0-9_]* proved' {} + 2>/dev/null | sed 's|.*/||; s|[.]out$||' | sort; }
+logs() {
+    find target/log -name '*.out' -newer "$work/start" -exec grep "$1" '^rt: [a-z0-9_]* proved' {} + 2>/dev/null |
+        sed 's|.*/||; s|[.]out$||' | sort
+}
 
 # At a terminal one line, which is written anew each second; elsewhere a line for each time that more is proved.
 report() {

@@ -8,7 +8,8 @@ set -eu
 case $1 in /* | --soname) file=$1 ;; *) file=$PWD/$1 ;; esac
 cd "$(dirname "$0")"
 # The part of the version that changes where a call changes: the first number, and before 1.0.0 the second too.
-compatible=$(sed -n -e 's/^#define NAVORZIM_VERSION "\(0[.][0-9]*\)[.].*/\1/p' -e 's/^#define NAVORZIM_VERSION "\([1-9][0-9]*\)[.].*/\1/p' include/navorzim.h)
+version=$(sed -n 's/^#define NAVORZIM_VERSION "\(.*\)"$/\1/p' include/navorzim.h)
+case $version in 0.*) compatible=${version%.*} ;; *) compatible=${version%%.*} ;; esac
 soname=libnavorzim.so.$compatible
 if [ "$file" = --soname ]; then echo "$soname" && exit; fi
 sh library.sh

@@ -44,8 +44,8 @@ AT_LAST = r"3 of 4 crates are proved, \d:\d\d, now capi"
 PROVED = r"The library is proved: 4 crates, in \d:\d\d\.\n"
 
 
-class House:
-    """A repository of five crates, three of them below capi, and stand-ins for rt and cargo."""
+class Repository:
+    """One of five crates, three of them below capi, and stand-ins for rt and cargo."""
 
     def __init__(self, folder: str) -> None:
         self.root = Path(folder)
@@ -96,7 +96,7 @@ class House:
 
     def processes(self) -> int:
         """How many processes of the script are still there, once those that were told to end had the time."""
-        for _ in range(50):
+        for _ in range(200):
             count = sum(f"TMPDIR={self.root}".encode() in variables for variables in environments())
             if count == 0:
                 break
@@ -132,27 +132,27 @@ def watched(file: int, steps: "list[tuple[str, Callable[[int], object]]]") -> st
             steps.pop(0)[1](file)
 
 
-def test_elsewhere(house: House) -> None:
-    names = subprocess.run(["sh", "library.sh", "--crates"], cwd=house.root, capture_output=True, text=True, check=True).stdout
+def test_elsewhere(repository: Repository) -> None:
+    names = subprocess.run(["sh", "library.sh", "--crates"], cwd=repository.root, capture_output=True, text=True, check=True).stdout
     assert names.split() == ["first", "second", "third", "capi"], names
-    status, out, aside = house.elsewhere()
+    status, out, aside = repository.elsewhere()
     lines = aside.splitlines()
     assert status == 0 and re.fullmatch(PROVED + re.escape(SHOWN), out), (status, out, aside)
     assert all(re.fullmatch(r"\d of 4 crates are proved, \d:\d\d(, now [a-z, 1]*)?", line) for line in lines), aside
     assert [line for line in lines if re.fullmatch(AT_WORK, line)] and re.fullmatch(AT_LAST, lines[-1]), aside
     again = "The library is proved: 4 crates, and nothing has changed since.\n" + SHOWN
-    assert house.elsewhere() == (0, again, ""), house.elsewhere()
+    assert repository.elsewhere() == (0, again, ""), repository.elsewhere()
 
 
-def test_refused(house: House) -> None:
-    house.goes("crates-go")(0)
-    status, out, aside = house.elsewhere(REFUSED="second")
+def test_refused(repository: Repository) -> None:
+    repository.goes("crates-go")(0)
+    status, out, aside = repository.elsewhere(REFUSED="second")
     assert (status, out) == (1, ""), (status, out, aside)
     assert aside.endswith("demo.sh: the library isn't proved\n") and "rt: second NOT PROVED (exit 1, 1 s)\n" in aside, aside
 
 
-def test_terminal(house: House) -> None:
-    status, sent = house.at_terminal(house.steps())
+def test_terminal(repository: Repository) -> None:
+    status, sent = repository.at_terminal(repository.steps())
     before, said, after = re.split(f"({PROVED})", sent.replace("\r\n", "\n"))
     # on the terminal all of that is one line, which is gone in the end
     assert status == 0 and "\n" not in before and before.endswith("\r\x1b[K") and after.endswith(SHOWN), sent
@@ -160,45 +160,46 @@ def test_terminal(house: House) -> None:
     assert any(re.fullmatch(AT_WORK, line) for line in lines) and re.fullmatch(AT_LAST, lines[-2]), sent
 
 
-def test_interrupted(house: House) -> None:
-    status, sent = house.at_terminal([(AT_WORK, lambda terminal: os.write(terminal, b"\x03"))])
+def test_interrupted(repository: Repository) -> None:
+    status, sent = repository.at_terminal([(AT_WORK, lambda terminal: os.write(terminal, b"\x03"))])
     assert status == 130 and "cargo" not in sent and sent.endswith("\r\x1b[K"), (status, sent)
-    assert house.processes() == 0
+    assert repository.processes() == 0
 
 
-def test_narrow(house: House) -> None:
+def test_narrow(repository: Repository) -> None:
     """A line that is wider than the terminal would go on in the next, and stay."""
-    steps = [(r"0 of 4 crates are proved, \d:\d\d, now\x1b", house.goes("crates-go")), (r"3 of 4 [a-z ]*, \d:\d\d, now\x1b", house.goes("capi-goes"))]
-    status, sent = house.at_terminal(steps, columns=len("0 of 4 crates are proved, 0:00, now") + 1)
+    begun, ended = r"0 of 4 crates are proved, \d:\d\d, now\x1b", r"3 of 4 crates are proved, \d:\d\d, now\x1b"
+    steps = [(begun, repository.goes("crates-go")), (ended, repository.goes("capi-goes"))]
+    status, sent = repository.at_terminal(steps, columns=len("0 of 4 crates are proved, 0:00, now") + 1)
     assert status == 0 and re.search(PROVED, sent.replace("\r\n", "\n")), sent
 
 
-def test_ended(house: House) -> None:
+def test_ended(repository: Repository) -> None:
     for number, expected in ((signal.SIGTERM, 143), (signal.SIGHUP, 129), (signal.SIGQUIT, 131)):
-        child = house.begun()
+        child = repository.begun()
         watched(child.stderr.fileno(), [(AT_WORK, lambda _: child.send_signal(number))])
         child.communicate()
-        assert child.returncode == expected and house.processes() == 0, (number, child.returncode)
+        assert child.returncode == expected and repository.processes() == 0, (number, child.returncode)
 
 
-def test_ended_while_building(house: House) -> None:
+def test_ended_while_building(repository: Repository) -> None:
     for name in ("crates-go", "capi-goes"):
-        house.goes(name)(0)
-    child = house.begun(SLOW="yes")
-    while not (house.root / "building").exists():
+        repository.goes(name)(0)
+    child = repository.begun(SLOW="yes")
+    while not (repository.root / "building").exists():
         time.sleep(0.1)
     child.terminate()
     child.communicate()
-    assert child.returncode == 143 and house.processes() == 0, child.returncode
+    assert child.returncode == 143 and repository.processes() == 0, child.returncode
 
 
 def main() -> None:
     tests = (test_elsewhere, test_refused, test_terminal, test_narrow, test_interrupted, test_ended, test_ended_while_building)
     for test in tests:
         with tempfile.TemporaryDirectory() as folder:
-            house = House(folder)
-            test(house)
-            assert house.left() == [], house.left()
+            repository = Repository(folder)
+            test(repository)
+            assert repository.left() == [], repository.left()
     print("demo.sh: says how far it is, at a terminal and elsewhere, and ends with all that it started")
 
 

@@ -1,7 +1,9 @@
 """The shared library: where it is found, its calls, and buffers that are lent to them without a copy."""
 import os
+from array import array
 from contextlib import ExitStack
 from ctypes import CDLL, POINTER, Structure, byref, c_char_p, c_int, c_size_t, c_ssize_t, c_uint64, c_void_p, py_object, pythonapi
+from mmap import mmap
 from operator import index
 from pathlib import Path
 from typing import Any, Iterable, Optional, Union
@@ -82,10 +84,10 @@ def crossing(parameter: str) -> "tuple[Any, ...]":
 LIBRARY = load()
 
 
-Readable = Union[bytes, bytearray, memoryview]
-"""Bytes that a call reads. Whatever else has its bytes in one piece is taken as well, like an mmap or an array."""
+Readable = Union[bytes, bytearray, memoryview, mmap, "array[Any]"]
+"""Bytes that a call reads. Whatever else has its bytes in one piece is taken as well, like an array of numpy."""
 
-Writable = Union[bytearray, memoryview]
+Writable = Union[bytearray, memoryview, mmap, "array[Any]"]
 """Bytes that a call writes."""
 
 
