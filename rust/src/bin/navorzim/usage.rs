@@ -38,20 +38,33 @@ pub fn kind(name: &str) -> Option<Kind> {
     }
 }
 
-/// The usage lines of a help text, each from the tool's name on.
+/// The usage lines of a help text as they stand, from the tool's name on. A usage that is too long for a line goes on in the next.
 pub fn lines(help: &'static str) -> impl Iterator<Item = &'static str> {
-    let first = help.lines().skip_while(|line| !line.starts_with("usage: "));
-    first.take_while(|line| !line.is_empty()).map(|line| line.trim_start_matches("usage:").trim_start())
+    let first = help.lines().skip_while(|line| !line.starts_with(USAGE));
+    first.take_while(|line| !line.is_empty()).filter_map(|line| line.get(USAGE.len()..))
 }
 
-/// What follows the command's name in each of its usage lines.
+const USAGE: &str = "usage: ";
+
+/// What follows the command's name in each of its usages.
 pub fn items(command: &Command) -> Vec<Vec<Item>> {
-    lines(command.help).map(line_items).collect()
+    usages(command.help).into_iter().map(usage_items).collect()
 }
 
-fn line_items(line: &'static str) -> Vec<Item> {
-    let mut words =
-        line.split_whitespace().skip(2).map(|word| word.trim_matches(['[', ']'])).filter(|word| *word != "|");
+fn usages(help: &'static str) -> Vec<Vec<&'static str>> {
+    let mut usages: Vec<Vec<&str>> = Vec::new();
+    for line in lines(help) {
+        let words = line.split_whitespace();
+        match usages.last_mut() {
+            Some(usage) if line.starts_with(' ') => usage.extend(words),
+            _ => usages.push(words.skip(2).collect()),
+        }
+    }
+    usages
+}
+
+fn usage_items(words: Vec<&'static str>) -> Vec<Item> {
+    let mut words = words.into_iter().map(|word| word.trim_matches(['[', ']'])).filter(|word| *word != "|");
     let mut items = Vec::new();
     while let Some(word) = words.next() {
         items.push(match word {
@@ -149,7 +162,7 @@ pub fn term(line: &'static str) -> Option<(&'static str, &'static str)> {
 
 #[cfg(test)]
 mod tests {
-    use super::{items, kind, options, purpose, summary, Item, SHARED};
+    use super::{items, kind, options, purpose, summary, usages, Item, SHARED};
     use crate::arguments::takes_value;
     use crate::commands::COMMANDS;
     use crate::help;
@@ -169,6 +182,12 @@ mod tests {
         for (name, value, _) in SHARED {
             assert!(help::ALL.contains(&format!("{name} {value}")), "{name}");
         }
+    }
+
+    #[test]
+    fn a_usage_goes_on_in_the_next_line() {
+        let help = "usage: navorzim show CODE\n           [--wait SECONDS]\n       navorzim show PLAN\n\nDraws.\n";
+        assert_eq!(usages(help), [vec!["CODE", "[--wait", "SECONDS]"], vec!["PLAN"]]);
     }
 
     #[test]
