@@ -14,7 +14,8 @@ end() {
     if [ -n "$reporter" ]; then kill "$reporter" 2>/dev/null && clear_line; fi
     # a group has its number only when setsid has made it
     if [ -n "$group" ]; then kill -- "-$group" 2>/dev/null || kill "$group" 2>/dev/null || :; fi
-    rm -rf "$work"
+    # one that is just ending may still write
+    rm -rf "$work" 2>/dev/null || { sleep 1 && rm -rf "$work"; }
 }
 trap end EXIT
 trap 'exit 129' HUP
@@ -37,9 +38,9 @@ show_line() {
     printf '\r%.*s\033[K' $((columns - 1)) "$1" >&2
 }
 
-# The command and all that it starts are a group of their own, so that all of it can be ended.
+# The command and all that it starts are a group of their own, so that all of it can be ended, and their temporary files removed.
 run_in_group() {
-    setsid "$@" >"$work/log" 2>&1 &
+    TMPDIR=$work setsid "$@" >"$work/log" 2>&1 &
     group=$!
     status=0
     wait "$group" || status=$?

@@ -20,6 +20,7 @@ from typing import Callable, Iterator
 ROOT = Path(__file__).resolve().parent.parent
 RT = """#!/bin/sh
 mkdir -p target/log target/staticlib
+mktemp -d >/dev/null
 wait_for() { until [ -e "$1" ]; do sleep 0.1; done; }
 prove() {
     : >"target/log/$1.out"
@@ -34,7 +35,7 @@ esac
 """
 CARGO = """#!/bin/sh
 case $1 in
-build) if [ -n "${SLOW:-}" ]; then : >"$TMPDIR/building" && sleep 60; fi ;;
+build) if [ -n "${SLOW:-}" ]; then : >../building && sleep 60; fi ;;
 *) echo "cargo $*, in ${PWD##*/}" ;;
 esac
 """
