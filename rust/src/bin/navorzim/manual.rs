@@ -65,9 +65,6 @@ fn write_options(page: &mut String) {
     for (option, said) in OPTIONS {
         write_term(page, option, said);
     }
-    for (option, value, said) in usage::SHARED {
-        write_term(page, &format!("{option} {value}"), said);
-    }
 }
 
 const EXIT_STATUS: &str = "Exit status: ";

@@ -24,10 +24,6 @@ pub enum Kind {
     Numbers,
 }
 
-/// Options of many commands that help explains once and no usage line has: their value, and what they are for.
-pub const SHARED: &[(&str, &str, &str)] =
-    &[("--wait", "SECONDS", "waits up to so many seconds for a file that somebody else has locked")];
-
 /// What a name in capital letters stands for; none for a name that no usage line has.
 pub fn kind(name: &str) -> Option<Kind> {
     match name {
@@ -82,11 +78,10 @@ fn usage_items(words: Vec<&'static str>) -> Vec<Item> {
 pub fn options(command: &Command) -> Vec<(&'static str, Option<&'static str>)> {
     let items: Vec<Item> = items(command).into_iter().flatten().collect();
     let value = |name| {
-        let shown = items.iter().find_map(|item| match item {
+        items.iter().find_map(|item| match item {
             Item::Option(named, value) if *named == name => *value,
             _ => None,
-        });
-        shown.or_else(|| SHARED.iter().find_map(|(named, value, _)| (*named == name).then_some(*value)))
+        })
     };
     command.options.iter().map(|name| (*name, value(*name))).collect()
 }
@@ -131,7 +126,7 @@ fn said_here(option: &str) -> &'static str {
         "--symbol" => "the bytes of a symbol",
         "--in-place" => "replaces STRIPES",
         "--keep" => "works in this folder, and leaves it",
-        _ => SHARED.iter().find_map(|(named, _, said)| (*named == option).then_some(*said)).unwrap_or_default(),
+        _ => "",
     }
 }
 
@@ -162,10 +157,9 @@ pub fn term(line: &'static str) -> Option<(&'static str, &'static str)> {
 
 #[cfg(test)]
 mod tests {
-    use super::{items, kind, options, purpose, summary, usages, Item, SHARED};
+    use super::{items, kind, options, purpose, summary, usages, Item};
     use crate::arguments::takes_value;
     use crate::commands::COMMANDS;
-    use crate::help;
     use std::collections::BTreeSet;
 
     #[test]
@@ -175,12 +169,8 @@ mod tests {
                 Item::Option(name, _) => Some(name),
                 _ => None,
             });
-            let shared = SHARED.iter().map(|(name, ..)| *name).filter(|name| command.options.contains(name));
-            let all: BTreeSet<&str> = named.chain(shared).collect();
-            assert_eq!(all, command.options.iter().copied().collect(), "{}", command.name);
-        }
-        for (name, value, _) in SHARED {
-            assert!(help::ALL.contains(&format!("{name} {value}")), "{name}");
+            let named: BTreeSet<&str> = named.collect();
+            assert_eq!(named, command.options.iter().copied().collect(), "{}", command.name);
         }
     }
 
