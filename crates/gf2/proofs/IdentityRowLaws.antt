@@ -15,17 +15,11 @@ use Rattle.bits.specs.Numerals.{setWidth, padded}
 use Rattle.bits.proofs.Booleans.{bool-cases}
 use Rattle.bits.proofs.OverlapLaws.{overlap-zero-left, overlap-zero-right, even-if-not-odd}
 use Rattle.bits.proofs.SetLaws.{has-unit, has-by-overlap}
-use Rattle.gf2.specs.InnerElimination.{pivotFor, reducePattern, reducePatterns, remaining, EvenOn, unitsFrom, units}
+use Rattle.gf2.specs.InnerElimination.{pivotFor, reducePattern, reducePatterns, remaining, nonempty, EvenOn, unitsFrom, units}
 use Rattle.gf2.specs.InnerSubsetPlans.{survivors}
 
 -- ------------------------------------------------------------------
 -- Patterns that are 0
-
--- The patterns that are not 0
-unfoldable pub nonempty : List ℕ → List ℕ
-nonempty [] = []
-nonempty (zero ∷ patterns) = nonempty patterns
-nonempty (suc e ∷ patterns) = suc e ∷ nonempty patterns
 
 -- A pattern that is 0 is no pivot
 pub pivotFor-nonempty : (patterns : List ℕ) (row : ℕ) → pivotFor (nonempty patterns) row ≡ pivotFor patterns row

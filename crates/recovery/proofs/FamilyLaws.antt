@@ -10,9 +10,9 @@ use Rattle.bits.specs.Numerals.{padded}
 use Rattle.bits.proofs.Booleans.{and-left, and-right}
 use Rattle.codes.specs.Codes.{rowsOf}
 use Rattle.codes.specs.Layouts.{symbolsOf, firstSymbol, heightOf, diskOf}
-use Rattle.gf2.specs.InnerElimination.{pivotFor, reducePatterns, remaining, unitsFrom}
+use Rattle.gf2.specs.InnerElimination.{pivotFor, reducePatterns, remaining, nonempty, unitsFrom}
 use Rattle.gf2.specs.InnerSubsetPlans.{survivors}
-use Rattle.gf2.proofs.IdentityRowLaws.{nonempty, lostUnits}
+use Rattle.gf2.proofs.IdentityRowLaws.{lostUnits}
 use Rattle.lists.specs.Lists as Lists
 use Rattle.solve.specs.InnerSolving.{oddPattern}
 use Rattle.family_codes.specs.Families.{listed, threeFiveOrSeven, familyCode, familyRow, diskRow, parityRow, dataOrRowParity, unit, sumOver, extraEntry, diagonalEntry}

@@ -14,8 +14,8 @@ use borrow.Author.Tests.{eqb-true, eqb-false, eq-eqb, lt-ltb}
 use Rattle.bits.proofs.Booleans.{bool-cases, and-left, and-right, and-true-if-both, or-true-if-left, or-true-if-right}
 use Rattle.codes.specs.Codes.{LinearCode, matrix, WithinLimits}
 use Rattle.codes.specs.Layouts.{symbolsOf, diskOf}
-use Rattle.gf2.specs.InnerElimination.{remaining, units}
-use Rattle.gf2.proofs.IdentityRowLaws.{nonempty, lostUnits, remaining-after-identity-rows}
+use Rattle.gf2.specs.InnerElimination.{remaining, nonempty, units}
+use Rattle.gf2.proofs.IdentityRowLaws.{lostUnits, remaining-after-identity-rows}
 use Rattle.lists.specs.Lists.{GoodList, GoodDisks, listed, same}
 use Rattle.lists.proofs.ListLaws.{same-means-equal}
 use Rattle.plan_sheets.specs.InnerPlanSheets.{First, Third}

@@ -13,10 +13,10 @@ use Rattle.bits.specs.Lists.{symbolsIn}
 use Rattle.bits.proofs.Booleans.{bool-cases}
 use Rattle.elimination.specs.InnerPatterns.{unitPatterns}
 use Rattle.elimination.proofs.PatternLaws.{unitPatterns-start}
-use Rattle.gf2.specs.InnerElimination.{pivotFor, remaining, EvenOn}
+use Rattle.gf2.specs.InnerElimination.{pivotFor, remaining, nonempty, EvenOn}
 use Rattle.gf2.specs.InnerSubsetPlans.{survivors}
 use Rattle.gf2.proofs.EliminationLaws.{pivot-even-if-all-even, even-if-no-pivot, odd-if-pivot, pivot-below, remaining-below, startsWithUnits-below}
-use Rattle.gf2.proofs.IdentityRowLaws.{nonempty, pivotFor-nonempty}
+use Rattle.gf2.proofs.IdentityRowLaws.{pivotFor-nonempty}
 use Rattle.gf2.proofs.PlanningLaws.{remaining-even-on-known}
 use Rattle.solve.specs.InnerSolving.{oddPattern}
 

@@ -1,0 +1,2 @@
+pub mod InnerSpans
+pub mod Gone
