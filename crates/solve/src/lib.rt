@@ -1,8 +1,8 @@
 // What the known symbols of an array say of the wanted ones: elimination over the known rows, a pattern that shows a wanted symbol out of reach,
-// and for each wanted symbol the subset of the known ones that sums to it.
+// and for each wanted symbol the subset of the known ones that sums to it; and where some are out of reach, the patterns that are lost with them.
 ghost use mathlib.Core.Path.{_≡_};
 ghost use Prim.Native.Nat.{_≤_};
-ghost use lib.ListN.{take};
+ghost use lib.ListN.{length, take};
 ghost use Rattle.bits.specs.BitSets.{has};
 ghost use Rattle.bits.specs.Lists.{symbolsIn};
 ghost use Rattle.bits.specs.Numerals.{setWidth, numeral, numerals, padded};
@@ -10,6 +10,7 @@ ghost use Rattle.elimination.specs.InnerPatterns.{unitPatterns, ZeroBehind};
 ghost use Rattle.gf2.specs.InnerElimination.{remaining, pivots};
 ghost use Rattle.gf2.specs.InnerSubsetPlans.{survivors};
 ghost use Rattle.solve.specs.InnerSolving.{oddPattern, wantedSubsets};
+ghost use Rattle.spans.specs.InnerSpans.{lostPatterns};
 use back_substitution::back_substitute;
 use bits::BitSet;
 use bits::BitSets;
@@ -20,6 +21,11 @@ use bits::is_empty;
 use elimination::eliminate;
 use elimination::pivot_for;
 use elimination::unit_patterns;
+
+pub mod set_lists; // set_lists.rt: the sets of an array that are not empty
+
+pub use set_lists::SetList;
+use set_lists::nonempty_sets;
 
 // Elimination over the known symbols: their rows, the pivot of each, and the patterns that remain.
 pub struct Elimination {
@@ -114,4 +120,22 @@ pub fn wanted_subsets(
         target += 1;
     }
     subsets
+}
+
+// Elimination run on over the wanted rows: of `count` patterns those that a wanted row takes as its pivot.
+pub fn lost_patterns(
+    remaining: BitSets,
+    count: usize,
+    rows: BitSets,
+    symbols: usize,
+    wanted: BitSet,
+) -> SetList
+    requires { ⌜ (count ≤ setWidth) × (symbols ≤ setWidth) × ZeroBehind count (numerals remaining) ⌝ }
+    ensures count { λ r. ⌜ r .count ≡ length (lostPatterns (numerals remaining) (survivors (has (numeral wanted)) (take symbols (numerals rows)))) ⌝ }
+    ensures sets { λ r. ⌜ numerals (r .sets) ≡ padded (lostPatterns (numerals remaining) (survivors (has (numeral wanted)) (take symbols (numerals rows)))) ⌝ }
+{
+    let wanted_rows = surviving_rows(rows, symbols, wanted);
+    let eliminated = eliminate(remaining, count, wanted_rows, symbols);
+    let lost = eliminated.pivots;
+    nonempty_sets(lost, symbols)
 }
