@@ -1,3 +1,4 @@
 mod NumberLaws
 pub mod AnswerLaws
 pub mod PlanLaws
+pub mod EntryLaws

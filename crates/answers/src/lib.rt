@@ -1,15 +1,21 @@
 // How answers go out to C: a struct for each kind of answer, and the function that makes it. Enums go out as the number and the place of
 // document 01's table beside the values of their case.
 ghost use mathlib.Core.Path.{_≡_};
+ghost use Prim.Native.Nat.{_%_, _^_};
+ghost use lib.ListN.{length, getD, take};
+ghost use Rattle.bits.specs.Numerals.{numerals};
 ghost use Rattle.plans.specs.Check.{asChecked};
 ghost use Rattle.refusals.specs.Orders.{outcome};
 ghost use Rattle.families.specs.FamilySheets.{asWritten};
 ghost use Rattle.planning.specs.Planning.{asPlanned};
 ghost use Rattle.answers.specs.InnerFits.{PatternFits};
-ghost use Rattle.answers.specs.Answers.{outVerdict, outSheet, outChecked, outPlanned, outPart};
+ghost use Rattle.answers.specs.Answers.{outVerdict, outSheet, outChecked, outPlanned, outPattern, outPart};
+use bits::BitSets;
+use bits::SET_WIDTH;
 use bits::low_word;
 use families::Written;
 use planning::Planned;
+use planning::PlanningAnswer;
 use plans::Checked;
 use refusals::Verdict;
 use views::Part;
@@ -48,7 +54,7 @@ pub struct OutChecked {
     pub reads: usize,
 }
 
-// A plan's length and read count, or a pattern: navorzim_planned in C.
+// A plan's length and read count, or how many patterns there are and the first of them: navorzim_planned in C. Sets are one word: pattern_high is 0.
 #[repr(C)]
 pub struct OutPlanned {
     pub number: u64,
@@ -56,6 +62,17 @@ pub struct OutPlanned {
     pub length: usize,
     pub reads: usize,
     pub pattern: u64,
+    pub pattern_high: u64,
+    pub patterns: usize,
+}
+
+// A set of symbols or data symbols, as two words: navorzim_set in C. Sets are one word: high is 0.
+#[repr(C)]
+pub struct OutSet {
+    pub number: u64,
+    pub place: usize,
+    pub low: u64,
+    pub high: u64,
 }
 
 // Where a part lies: navorzim_part in C.
@@ -118,11 +135,68 @@ pub fn out_checked(checked: Checked) -> OutChecked
     }
 }
 
-// Planning's answer, as it goes out.
-pub fn out_planned(planned: Planned) -> OutPlanned
-    requires { ⌜ PatternFits (asPlanned planned) ⌝ }
-    ensures { λ r. ⌜ r ≡ outPlanned (asPlanned planned) ⌝ }
+// How many of the first `count` sets there are.
+pub fn listed_count(sets: BitSets, count: usize) -> usize
+    ensures { λ r. ⌜ r ≡ length (take count (numerals sets)) ⌝ }
 {
+    if count < SET_WIDTH {
+        return count;
+    }
+    SET_WIDTH
+}
+
+// Entry `index` of the first `count` sets, as a word; 0 behind them.
+pub fn listed_word(sets: BitSets, count: usize, index: usize) -> u64
+    ensures { λ r. ⌜ r ≡ getD (take count (numerals sets)) index 0 % 2 ^ 64 ⌝ }
+{
+    if count <= index {
+        return 0;
+    }
+    if SET_WIDTH <= index {
+        return 0;
+    }
+    low_word(sets[index])
+}
+
+// Pattern `index` of planning's answer, as it goes out.
+pub fn out_pattern(answer: PlanningAnswer, index: usize) -> OutSet
+    ensures { λ r. ⌜ r ≡ outPattern (asPlanned answer) index ⌝ }
+{
+    let planned = answer.planned;
+    let patterns = answer.patterns;
+    match planned {
+        Planned::Plan {
+            length: _,
+            reads: _,
+        } => OutSet {
+            number: 0,
+            place: 0,
+            low: 0,
+            high: 0,
+        },
+        Planned::Patterns { count } => OutSet {
+            number: 0,
+            place: 0,
+            low: listed_word(patterns, count, index),
+            high: 0,
+        },
+        Planned::Refused(refusal) => OutSet {
+            number: refusal.number(),
+            place: refusal.place(),
+            low: 0,
+            high: 0,
+        },
+    }
+}
+
+// Planning's answer, as it goes out.
+pub fn out_planned(answer: PlanningAnswer) -> OutPlanned
+    requires { ⌜ PatternFits (asPlanned answer) ⌝ }
+    ensures { λ r. ⌜ r ≡ outPlanned (asPlanned answer) ⌝ }
+{
+    let planned = answer.planned;
+    let patterns = answer.patterns;
+    let first = low_word(patterns[0]);
     match planned {
         Planned::Plan { length, reads } => OutPlanned {
             number: 0,
@@ -130,13 +204,17 @@ pub fn out_planned(planned: Planned) -> OutPlanned
             length: length,
             reads: reads,
             pattern: 0,
+            pattern_high: 0,
+            patterns: 0,
         },
-        Planned::Pattern { pattern } => OutPlanned {
+        Planned::Patterns { count } => OutPlanned {
             number: 0,
             place: 0,
             length: 0,
             reads: 0,
-            pattern: low_word(pattern),
+            pattern: first,
+            pattern_high: 0,
+            patterns: listed_count(patterns, count),
         },
         Planned::Refused(refusal) => OutPlanned {
             number: refusal.number(),
@@ -144,6 +222,8 @@ pub fn out_planned(planned: Planned) -> OutPlanned
             length: 0,
             reads: 0,
             pattern: 0,
+            pattern_high: 0,
+            patterns: 0,
         },
     }
 }

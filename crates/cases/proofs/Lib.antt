@@ -1,1 +1,2 @@
+mod OnlyPatternLaws
 pub mod CaseProofs

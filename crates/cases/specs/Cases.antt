@@ -12,7 +12,7 @@ use Rattle.bits.specs.BitSets.{with}
 use Rattle.desk_answers.specs.DeskAnswers.{deskText}
 use Rattle.planning.specs.Demand3.{CannotBeRebuilt, IsPlan, Promised}
 use Rattle.plan_requests.specs.PlanRequests.{Asked, wholeDisk, listedOn, listedOnSet, leastBuffer}
-use Rattle.planning.specs.Planning.{Found, APattern}
+use Rattle.planning.specs.Planning.{Found, APatterns}
 use Rattle.rebuild.specs.Rebuild.{stripeAfter}
 use Rattle.refusals.specs.Refusals.{_at_}
 use Rattle.refusals.specs.Orders.{Answer, Gives, Refuses}
@@ -172,8 +172,8 @@ rulesCases =
     ∷ answers square (alone 0) (6 ∷ 1 ∷ 4 ∷ 2 ∷ 4 ∷ 0 ∷ 3 ∷ 0 ∷ 0 ∷ []) (Refuses (20 at 0))
     -- P8: no plan; the pattern is 1
     ∷ pattern-of apart (wholeDisk 0) 1
-    -- .. and planning answers it
-    ∷ plans apart (wholeDisk 0) (Gives (APattern 1))
+    -- .. and planning answers it, and d is 1 (document 02, §9)
+    ∷ plans apart (wholeDisk 0) (Gives (APatterns (1 ∷ [])))
     -- P9: one clear, 0 reads
     ∷ answers emptyRow (alone 0) (6 ∷ 1 ∷ 2 ∷ 1 ∷ 1 ∷ 0 ∷ 0 ∷ 1 ∷ 0 ∷ 0 ∷ 0 ∷ 0 ∷ []) (Gives 0)
     -- P10
@@ -275,8 +275,16 @@ setCases =
     ∷ answers emptyRow (0 ∷ 1 ∷ []) (5 ∷ 3 ∷ 2 ∷ 1 ∷ 1 ∷ 0 ∷ 2 ∷ 0 ∷ 1 ∷ 1 ∷ 0 ∷ 1 ∷ 0 ∷ 0 ∷ 0 ∷ 0 ∷ []) (Gives 0)
     ∷ plans-some emptyRow (listedOnSet (0 ∷ 1 ∷ []) (0 ∷ []))
     ∷ pattern-of emptyRow (listedOnSet (0 ∷ 1 ∷ []) []) 1
-    ∷ plans emptyRow (listedOnSet (0 ∷ 1 ∷ []) []) (Gives (APattern 1))
+    ∷ plans emptyRow (listedOnSet (0 ∷ 1 ∷ []) []) (Gives (APatterns (1 ∷ [])))
+    ∷ []
+
+-- Document 02, §9: how much is gone of the square code without disks 0 and 1
+abbrev pub goneCases : List Case
+goneCases =
+    -- no plan; the pattern is 15, and d is 1
+    pattern-of square (listedOnSet (0 ∷ 1 ∷ []) []) 15
+    ∷ plans square (listedOnSet (0 ∷ 1 ∷ []) []) (Gives (APatterns (15 ∷ [])))
     ∷ []
 
 unfoldable pub table : List Case
-table = rulesCases ++ wantedCases ++ ontoItselfCases ++ setCases
+table = rulesCases ++ wantedCases ++ ontoItselfCases ++ setCases ++ goneCases

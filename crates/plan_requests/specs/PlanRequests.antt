@@ -1,11 +1,12 @@
 -- Plan (document 01; document 02, §3 and §5), what is asked and what is refused: code sheet, 7, 24, 23, 34.
-use mathlib.Core.Bool.{cond}
+use mathlib.Core.Bool.{Bool, cond}
 use mathlib.Core.List.{List, [], _∷_, _++_}
 use Prim.Native.Nat.{ℕ}
 use lib.Dec.{eqb, ltb}
+use Rattle.codes.specs.Codes.{LinearCode}
 use Rattle.codes.specs.declared.Layout.{Layout}
 use Rattle.plans.specs.Check.{askedFaults}
-use Rattle.plans.specs.Judgement.{wantedFaults}
+use Rattle.plans.specs.Judgement.{wantedOf, wantedFaults}
 use Rattle.refusals.specs.Orders.{Outcome, Fault, _gets_, andThen}
 use Rattle.refusals.specs.Refusals.{_at_}
 use Rattle.code_sheets.specs.CodeReading.{reading}
@@ -27,6 +28,10 @@ listedOn disk list = record { edition = 2; disks = disk ∷ []; wanted = list }
 -- A set of disks with a list, which may have no entries, an edition 3 sheet
 abbrev pub listedOnSet : List ℕ → List ℕ → Asked
 listedOnSet disks list = record { edition = 3; disks = disks; wanted = list }
+
+-- Wanted are the symbols of planning's list, or without one all lost ones
+abbrev pub askedSymbols : LinearCode → Asked → ℕ → Bool
+askedSymbols code asked = wantedOf (code .layout) (asked .disks) (asked .wanted)
 
 -- The buffer for planning: 3,081 bytes, 3,114 for edition 2 and 3,210 for edition 3
 abbrev pub leastBuffer : ℕ → ℕ

@@ -10,7 +10,7 @@ use borrow.Author.Tests.{ltb-true, eqb-true, eqb-false}
 use Rattle.bits.specs.BitSets.{has}
 use Rattle.bits.specs.Lists.{symbolsIn}
 use Rattle.bits.specs.Numerals.{setWidth, padded}
-use Rattle.bits.proofs.PaddedLaws.{getD-padded}
+use Rattle.bits.proofs.PaddedLaws.{getD-padded, take-padded}
 use Rattle.codes.specs.Codes.{LinearCode, symbols, matrix}
 use Rattle.codes.proofs.LayoutLaws.{height-of-at-most}
 use Rattle.codes.proofs.LimitLaws.{layout-within}
@@ -24,16 +24,16 @@ use Rattle.plan_sheets.specs.PlanSheets.{listFrom, sectionsFor, headLength}
 use Rattle.plan_sheets.specs.InnerPlanSheets.{EditionFits, First, Second, Third, sectionsOf, subsetPlan, sourceCount, PlanFits}
 use Rattle.plans.specs.Judgement.{survives, lostCount}
 use Rattle.plans.proofs.JudgementLaws.{lost-below, lost-at-most}
-use Rattle.refusals.specs.Orders.{Gives}
+use Rattle.refusals.specs.Orders.{Answer, Gives, Refuses}
 use Rattle.sheets.specs.Buffers.{atFront}
+use Rattle.spans.specs.InnerSpans.{lostPatterns}
 use Rattle.solve.specs.InnerSolving.{oddPattern, wantedSubsets}
 use Rattle.solve.proofs.RowLaws.{getD-subsets, subsets-below}
-use Rattle.plan_requests.specs.PlanRequests.{Asked, leastBuffer}
-use Rattle.planning.specs.Planning.{APlan, APattern}
-use Rattle.planning.specs.Demand3.{askedSymbols, CannotBeRebuilt}
-use Rattle.planning.specs.InnerWork.{Workable, RightSteps, sheetOf, Worked}
+use Rattle.plan_requests.specs.PlanRequests.{Asked, askedSymbols, leastBuffer}
+use Rattle.planning.specs.Planning.{Found, APlan, APatterns}
+use Rattle.planning.specs.InnerWork.{Workable, RightSteps, SheetWritten, sheetOf, Chosen, PatternsFrom, WorkedFrom, Worked}
 use Rattle.planning.proofs.StripLaws.{lost-of-one}
-use Rattle.planning.proofs.WorkLaws.{targets, survivingRows, patternsLeft, pivotsFound, patternFound, subsetOf, stepsFound, asked-is-lost, target-wanted, survivors-counted, found-rules-plans-out, steps-right}
+use Rattle.planning.proofs.WorkLaws.{targets, knownRows, patternsLeftBy, pivotsFrom, patternFoundBy, patternsGoneBy, subsetFrom, stepsFrom, asked-is-lost, target-wanted, shown-rules-plans-out, known-counted, steps-right-from, patterns-from}
 
 -- The least buffer has room for a head and 1,024 steps
 head-room : (edition : ℕ) (disks list : List ℕ) → length disks ≤ 64 → length list ≤ 64 → (edition ≡ 2 → length list ≤ 32)
@@ -55,18 +55,15 @@ one-entry (entry ∷ []) e = refl
 one-entry (entry ∷ (other ∷ list)) e = absurd (omega arith)
 
 -- The rows of the first n symbols, and 0 for those that are not known
-abbrev pub knownRows : LinearCode → ℕ → ℕ → List ℕ
-knownRows code n known = survivors (has known) (take n (code .rows))
+abbrev pub rowsGiven : LinearCode → ℕ → ℕ → List ℕ
+rowsGiven code n known = survivors (has known) (take n (code .rows))
 
--- What elimination gave for what was asked: the array's symbols, those that survive and those that are wanted; the survivors' rows, their pivots,
--- and the patterns left
+-- What elimination gave for what was asked: the known symbols' rows, their pivots, and the patterns left
 pub record EliminatedFor (code : LinearCode) (asked : Asked) (n known wanted : ℕ) (surviving found left : List ℕ) : Type 0 where
-  pub count-is : n ≡ symbols code
-  pub known-are : (s : ℕ) → has known s ≡ survives (code .layout) (asked .disks) s
-  pub wanted-are : (s : ℕ) → has wanted s ≡ askedSymbols code asked s
-  pub surviving-are : take n surviving ≡ knownRows code n known
-  pub found-are : take n found ≡ pivots (unitPatterns (code .data_symbols)) (knownRows code n known)
-  pub left-are : left ≡ remaining (unitPatterns (code .data_symbols)) (knownRows code n known)
+  pub chosen : Chosen code asked n (has wanted) (has known)
+  pub surviving-are : take n surviving ≡ rowsGiven code n known
+  pub found-are : take n found ≡ pivots (unitPatterns (code .data_symbols)) (rowsGiven code n known)
+  pub left-are : left ≡ remaining (unitPatterns (code .data_symbols)) (rowsGiven code n known)
 
 module _ (code : LinearCode) (asked : Asked) {room : ℕ} (workable : Workable code asked room) where
   -- Each number listed can be in a set
@@ -98,96 +95,145 @@ module _ (code : LinearCode) (asked : Asked) {room : ℕ} (workable : Workable c
           omega (arith, listed, rows, height-of-at-most (code .layout) disk (workable .within .height-to))
       by-edition (Third e) = absurd (omega (arith, e))
 
+  -- ------------------------------------------------------------------
+  -- A plan from sets of survivors, one a symbol, whichever they are
+
+  module _ (wanted : ℕ) (sets : List ℕ) (below : (t : ℕ) → getD sets t 0 < 2 ^ symbols code) where
+    module _ (right : RightSteps code asked (sourceCount (symbols code) (subsetPlan (symbols code) (has wanted) sets)) (subsetPlan (symbols code) (has wanted) sets)) where
+      -- They fit the sheet and the buffer
+      pub fits-if-right : PlanFits (asked .edition) (code .layout) (code .data_symbols) (asked .disks) (asked .wanted) (has wanted) sets room
+      fits-if-right =
+          let within = workable .within in
+          let few-disks : length (asked .disks) ≤ 64 = omega (arith, workable .disks-good .count-to, within .disks-to) in
+          record {
+            edition-fits = workable .edition-fits;
+            layout-within = layout-within code within;
+            data-to = omega (arith, within .data-to);
+            failed-to = omega (arith, few-disks);
+            list-to = omega (arith, few-listed);
+            subsets-below = below;
+            steps-fit = right .fit;
+            room = omega (arith, right .fit, head-room (asked .edition) (asked .disks) (asked .wanted) few-disks few-listed fewer-listed, workable .room);
+          }
+
+      -- A sheet written from them is a good plan's
+      abbrev pub written-if-right : {sheetBytes reads : ℕ} {before after : List ℕ} → reads ≡ sourceCount (symbols code) (subsetPlan (symbols code) (has wanted) sets)
+          → sheetBytes ≡ length (sheetOf code asked reads (subsetPlan (symbols code) (has wanted) sets))
+          → after ≡ atFront (sheetOf code asked reads (subsetPlan (symbols code) (has wanted) sets)) before
+          → SheetWritten code asked sheetBytes reads before after
+      written-if-right reads-are length-is first-sheet =
+          record {
+            steps = subsetPlan (symbols code) (has wanted) sets;
+            right = subst (λ (count : ℕ). RightSteps code asked count (subsetPlan (symbols code) (has wanted) sets)) (sym reads-are) right;
+            length-is = length-is;
+            sheet-first = first-sheet;
+          }
+
   module _ {n known wanted : ℕ} {surviving found left : List ℕ} (given : EliminatedFor code asked n known wanted surviving found left) where
-    known-rows : knownRows code n known ≡ survivingRows code asked
-    known-rows = ap₂ (λ (set : ℕ → Bool) (m : ℕ). survivors set (take m (code .rows))) (fun-ext (given .known-are)) (given .count-is)
+    rows-are : rowsGiven code n known ≡ knownRows code (has known)
+    rows-are = ap (λ (m : ℕ). survivors (has known) (take m (code .rows))) (given .chosen .count-is)
 
     -- Behind the last pattern zeros are left
     pub left-zero-behind : ZeroBehind (code .data_symbols) left
     left-zero-behind =
         subst (ZeroBehind (code .data_symbols)) (sym (given .left-are))
-        (remaining-zero-behind (code .data_symbols) (unitPatterns (code .data_symbols)) (knownRows code n known) (unitPatterns-zero-behind (code .data_symbols)))
+        (remaining-zero-behind (code .data_symbols) (unitPatterns (code .data_symbols)) (rowsGiven code n known) (unitPatterns-zero-behind (code .data_symbols)))
 
     module _ {pattern : ℕ} (pattern-is : pattern ≡ oddPattern left (take n (code .rows)) (symbolsIn (has wanted) 0 n)) where
       -- The pattern is the one that the laws speak of
-      is-found : pattern ≡ patternFound code asked
+      is-found : pattern ≡ patternFoundBy code asked (has known)
       is-found =
           pattern-is
-          ∙ ap (λ (l : List ℕ). oddPattern l (take n (code .rows)) (symbolsIn (has wanted) 0 n)) (given .left-are ∙ ap (remaining (unitPatterns (code .data_symbols))) known-rows)
-          ∙ ap₂ (λ (set : ℕ → Bool) (m : ℕ). oddPattern (patternsLeft code asked) (take m (code .rows)) (symbolsIn set 0 m)) (fun-ext (given .wanted-are)) (given .count-is)
+          ∙ ap (λ (l : List ℕ). oddPattern l (take n (code .rows)) (symbolsIn (has wanted) 0 n)) (given .left-are ∙ ap (remaining (unitPatterns (code .data_symbols))) rows-are)
+          ∙ ap₂ (λ (set : ℕ → Bool) (m : ℕ). oddPattern (patternsLeftBy code (has known)) (take m (code .rows)) (symbolsIn set 0 m)) (fun-ext (given .chosen .wanted-are)) (given .chosen .count-is)
 
-      -- A pattern answered is a good one, and rules every plan out
-      pub worked-pattern : eqb pattern 0 ≡ false → (before : List ℕ) → Worked code asked before before (Gives (APattern pattern))
-      worked-pattern some before = (
-        subst (CannotBeRebuilt code asked) (sym is-found) (found-rules-plans-out code asked workable (λ none. eqb-false pattern 0 some (is-found ∙ none))),
-        refl,
-      )
+      -- Patterns answered tell what is gone
+      pub worked-patterns : eqb pattern 0 ≡ false → {count : ℕ} {sets : List ℕ}
+          → count ≡ length (lostPatterns left (survivors (has wanted) (take n (code .rows))))
+          → sets ≡ padded (lostPatterns left (survivors (has wanted) (take n (code .rows))))
+          → {answer : Answer Found} → answer ≡ Gives (APatterns (take count sets)) → (before : List ℕ) → WorkedFrom code asked (has known) before before answer
+      worked-patterns some {count} {sets} count-is sets-are answer-is before =
+          subst (WorkedFrom code asked (has known) before before) (sym answer-is) (
+            subst (PatternsFrom code asked (has known)) (sym are-gone)
+                (patterns-from code asked workable (has known) (given .chosen .known-survive) (λ none. eqb-false pattern 0 some (is-found ∙ none))),
+            refl,
+          )
+        where
+          are-gone : take count sets ≡ patternsGoneBy code asked (has known)
+          are-gone =
+              ap₂ (λ (m : ℕ) (l : List ℕ). take m l) count-is sets-are
+              ∙ take-padded (lostPatterns left (survivors (has wanted) (take n (code .rows))))
+              ∙ ap (λ (l : List ℕ). lostPatterns l (survivors (has wanted) (take n (code .rows)))) (given .left-are ∙ ap (remaining (unitPatterns (code .data_symbols))) rows-are)
+              ∙ ap₂ (λ (set : ℕ → Bool) (m : ℕ). lostPatterns (patternsLeftBy code (has known)) (survivors set (take m (code .rows)))) (fun-ext (given .chosen .wanted-are)) (given .chosen .count-is)
 
       module _ (none : eqb pattern 0 ≡ true) {subsets : List ℕ}
           (subsets-are : subsets ≡ padded (wantedSubsets (take n found) (take n surviving) (take n (code .rows)) n (has wanted))) where
         -- The subsets as the laws speak of them
         abbrev asSolved : List ℕ
-        asSolved = wantedSubsets (pivotsFound code asked) (survivingRows code asked) (matrix code) (symbols code) (askedSymbols code asked)
+        asSolved = wantedSubsets (pivotsFrom code (has known)) (knownRows code (has known)) (matrix code) (symbols code) (askedSymbols code asked)
 
         are-solved : (t : ℕ) → getD subsets t 0 ≡ getD asSolved t 0
         are-solved t =
             ap (λ (l : List ℕ). getD l t 0)
             (subsets-are
             ∙ ap₂ (λ (a b : List ℕ). padded (wantedSubsets a b (take n (code .rows)) n (has wanted)))
-            (given .found-are ∙ ap (pivots (unitPatterns (code .data_symbols))) known-rows) (given .surviving-are ∙ known-rows)
-            ∙ ap₂ (λ (set : ℕ → Bool) (m : ℕ). padded (wantedSubsets (pivotsFound code asked) (survivingRows code asked) (take m (code .rows)) m set))
-            (fun-ext (given .wanted-are)) (given .count-is))
+            (given .found-are ∙ ap (pivots (unitPatterns (code .data_symbols))) rows-are) (given .surviving-are ∙ rows-are)
+            ∙ ap₂ (λ (set : ℕ → Bool) (m : ℕ). padded (wantedSubsets (pivotsFrom code (has known)) (knownRows code (has known)) (take m (code .rows)) m set))
+            (fun-ext (given .chosen .wanted-are)) (given .chosen .count-is))
             ∙ getD-padded asSolved t
 
         -- The steps from the subsets are elimination's
-        steps-are : subsetPlan (symbols code) (has wanted) subsets ≡ stepsFound code asked
+        pub steps-are : subsetPlan (symbols code) (has wanted) subsets ≡ stepsFrom code asked (has known)
         steps-are =
-            ap (λ (set : ℕ → Bool). subsetPlan (symbols code) set subsets) (fun-ext (given .wanted-are))
-            ∙ planOf-same (λ t. getD subsets t 0) (subsetOf code asked) (symbols code) (targets code asked) same
+            ap (λ (set : ℕ → Bool). subsetPlan (symbols code) set subsets) (fun-ext (given .chosen .wanted-are))
+            ∙ planOf-same (λ t. getD subsets t 0) (subsetFrom code (has known)) (symbols code) (targets code asked) same
           where
-            same : (t : ℕ) → List·Memᴰ t (targets code asked) → getD subsets t 0 ≡ subsetOf code asked t
+            same : (t : ℕ) → List·Memᴰ t (targets code asked) → getD subsets t 0 ≡ subsetFrom code (has known) t
             same t m =
                 let is-wanted = target-wanted code asked workable t m in
                 are-solved t
-                ∙ getD-subsets (pivotsFound code asked) (survivingRows code asked) (matrix code) (symbols code) (askedSymbols code asked) t
+                ∙ getD-subsets (pivotsFrom code (has known)) (knownRows code (has known)) (matrix code) (symbols code) (askedSymbols code asked) t
                 (lost-below (code .layout) (asked .disks) t (asked-is-lost code asked workable t is-wanted))
-                ∙ ap (λ (c : Bool). cond c (subsetOf code asked t) 0) is-wanted
+                ∙ ap (λ (c : Bool). cond c (subsetFrom code (has known) t) 0) is-wanted
 
         -- They keep every rule of the check
         subset-steps-right : RightSteps code asked (sourceCount (symbols code) (subsetPlan (symbols code) (has wanted) subsets)) (subsetPlan (symbols code) (has wanted) subsets)
         subset-steps-right =
             subst (λ (plan : List Step). RightSteps code asked (sourceCount (symbols code) plan) plan) (sym steps-are)
-            (steps-right code asked workable (sym is-found ∙ eqb-true pattern 0 none))
+            (steps-right-from code asked workable (has known) (given .chosen .known-survive) (sym is-found ∙ eqb-true pattern 0 none))
+
+        -- The subsets are of the array's symbols
+        are-below : (t : ℕ) → getD subsets t 0 < 2 ^ symbols code
+        are-below t =
+            subst (λ (subset : ℕ). subset < 2 ^ symbols code) (sym (are-solved t))
+            (subst (λ (m : ℕ). getD asSolved t 0 < 2 ^ m) (known-counted code asked workable (has known) (given .chosen .known-survive))
+            (subsets-below (pivotsFrom code (has known)) (knownRows code (has known)) (matrix code) (symbols code) (askedSymbols code asked) t))
 
         -- They fit the sheet and the buffer
         pub plan-fits : PlanFits (asked .edition) (code .layout) (code .data_symbols) (asked .disks) (asked .wanted) (has wanted) subsets room
-        plan-fits =
-            let within = workable .within in
-            let few-disks : length (asked .disks) ≤ 64 = omega (arith, workable .disks-good .count-to, within .disks-to) in
-            record {
-              edition-fits = workable .edition-fits;
-              layout-within = layout-within code within;
-              data-to = omega (arith, within .data-to);
-              failed-to = omega (arith, few-disks);
-              list-to = omega (arith, few-listed);
-              subsets-below =
-                  λ t.
-                  subst (λ (subset : ℕ). subset < 2 ^ symbols code) (sym (are-solved t))
-                  (subst (λ (m : ℕ). getD asSolved t 0 < 2 ^ m) (survivors-counted code asked workable)
-                  (subsets-below (pivotsFound code asked) (survivingRows code asked) (matrix code) (symbols code) (askedSymbols code asked) t));
-              steps-fit = subset-steps-right .fit;
-              room = omega (arith, subset-steps-right .fit, head-room (asked .edition) (asked .disks) (asked .wanted) few-disks few-listed fewer-listed, workable .room);
-            }
+        plan-fits = fits-if-right wanted subsets are-below subset-steps-right
 
         -- A sheet written from them is a good plan's
         pub worked-plan : {sheetBytes reads : ℕ} {before after : List ℕ} → reads ≡ sourceCount (symbols code) (subsetPlan (symbols code) (has wanted) subsets)
             → sheetBytes ≡ length (sheetOf code asked reads (subsetPlan (symbols code) (has wanted) subsets))
             → after ≡ atFront (sheetOf code asked reads (subsetPlan (symbols code) (has wanted) subsets)) before
-            → Worked code asked before after (Gives (APlan sheetBytes reads))
-        worked-plan reads-are length-is first-sheet =
-            record {
-              steps = subsetPlan (symbols code) (has wanted) subsets;
-              right = subst (λ (count : ℕ). RightSteps code asked count (subsetPlan (symbols code) (has wanted) subsets)) (sym reads-are) subset-steps-right;
-              length-is = length-is;
-              sheet-first = first-sheet;
-            }
+            → WorkedFrom code asked (has known) before after (Gives (APlan sheetBytes reads))
+        worked-plan reads-are length-is first-sheet = (written-if-right wanted subsets are-below subset-steps-right reads-are length-is first-sheet, steps-are)
+
+  -- ------------------------------------------------------------------
+  -- All survivors
+
+  -- With all survivors known
+  pub all-known : {known : ℕ → Bool} → ((s : ℕ) → known s ≡ survives (code .layout) (asked .disks) s) → (before after : List ℕ) (answer : Answer Found)
+      → WorkedFrom code asked known before after answer → WorkedFrom code asked (survives (code .layout) (asked .disks)) before after answer
+  all-known all before after answer = subst (λ (set : ℕ → Bool). WorkedFrom code asked set before after answer) (fun-ext all)
+
+  -- What was worked out from all survivors is what planning promises
+  pub worked-from-all : (before after : List ℕ) (answer : Answer Found) → WorkedFrom code asked (survives (code .layout) (asked .disks)) before after answer
+      → Worked code asked before after answer
+  worked-from-all before after (Gives (APlan sheetBytes reads)) worked = worked .0
+  worked-from-all before after (Gives (APatterns patterns)) worked = (
+    record { cannot = shown-rules-plans-out code asked workable (getD patterns 0 0) (worked .0 .shown); gone = worked .0 .gone; something = worked .0 .something; are = worked .0 .are },
+    worked .1,
+  )
+  worked-from-all before after (Refuses refusal) worked = absurd worked

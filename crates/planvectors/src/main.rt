@@ -14,16 +14,19 @@
 //   plan LENGTH READS accepted behind-same restored BYTES    whether the checker accepts the plan with these reads, and its sheet wants what
 //                                                            was asked for; whether the bytes behind it are as they were; whether it gives
 //                                                            a stripe its wanted symbols back and keeps all other bytes; its bytes if asked for
-//   pattern PATTERN same good                                whether the buffer is as it was, and the pattern's stripe as it has to be
+//   patterns COUNT PATTERN .. same good                      whether the buffer is as it was, and each pattern's stripe as it has to be
 //
 // Where one of these is not so, its word begins with "not-".
 ghost use mathlib.Core.Path.{_≡_};
 ghost use lib.ListN.{length};
+use bits::BitSets;
+use bits::SET_WIDTH;
 use bits::low_word;
 use checker::Checked;
 use libc::STDIN_FILENO;
 use lists::is_same;
 use planner::Planned;
+use planner::PlanningAnswer;
 use records::contains;
 use records::end_line;
 use records::fill_part;
@@ -271,6 +274,21 @@ fn is_good(record: &[u8], disks: &[u8], pattern: u64) -> bool {
         & is_zero(rest_at(&bits, data_symbols))
 }
 
+// Whether each of the first `count` patterns is good.
+fn are_good(record: &[u8], disks: &[u8], patterns: BitSets, count: usize) -> bool {
+    let mut i = 0;
+    while i < SET_WIDTH {
+        if i == count {
+            return true;
+        }
+        if !is_good(record, disks, low_word(patterns[i])) {
+            return false;
+        }
+        i += 1;
+    }
+    true
+}
+
 fn print_judged(length: usize, reads: usize, accepted: bool, behind_same: bool, restored: bool) {
     print(b"plan");
     print_number(length as u64);
@@ -294,9 +312,22 @@ fn print_plan(record: &[u8], disks: &[u8], plan: &[u8], reads: usize, behind_sam
     }
 }
 
-fn print_pattern(pattern: u64, unchanged: bool, good: bool) {
-    print(b"pattern");
-    print_number(pattern);
+// Prints the first `count` patterns.
+fn print_each(patterns: BitSets, count: usize) {
+    let mut i = 0;
+    while i < SET_WIDTH {
+        if i == count {
+            return;
+        }
+        print_number(low_word(patterns[i]));
+        i += 1;
+    }
+}
+
+fn print_patterns(patterns: BitSets, count: usize, unchanged: bool, good: bool) {
+    print(b"patterns");
+    print_number(count as u64);
+    print_each(patterns, count);
     print_word(unchanged, b"same");
     print_word(good, b"good");
 }
@@ -307,7 +338,9 @@ fn print_refused(refusal: Refusal, unchanged: bool) {
 }
 
 // Prints what planning answered, and what became of its buffer, which was as the copy is.
-fn print_answer(record: &[u8], disks: &[u8], planned: Planned, buffer: &[u8], copy: &[u8]) {
+fn print_answer(record: &[u8], disks: &[u8], answer: PlanningAnswer, buffer: &[u8], copy: &[u8]) {
+    let planned = answer.planned;
+    let patterns = answer.patterns;
     match planned {
         Planned::Plan { length, reads } => print_plan(
             record,
@@ -316,20 +349,18 @@ fn print_answer(record: &[u8], disks: &[u8], planned: Planned, buffer: &[u8], co
             reads,
             same_behind(buffer, copy, length),
         ),
-        Planned::Pattern { pattern } => {
-            let number = low_word(pattern);
-            print_pattern(
-                number,
-                is_same(buffer, copy),
-                is_good(record, disks, number),
-            )
-        }
+        Planned::Patterns { count } => print_patterns(
+            patterns,
+            count,
+            is_same(buffer, copy),
+            are_good(record, disks, patterns, count),
+        ),
         Planned::Refused(refusal) => print_refused(refusal, is_same(buffer, copy)),
     }
 }
 
 // Asks for a plan: for one disk, without a list or with one, or for a set of disks.
-fn plan(record: &[u8], disk: usize, disks: &[u8], buffer: &mut [u8]) -> Planned {
+fn plan(record: &[u8], disk: usize, disks: &[u8], buffer: &mut [u8]) -> PlanningAnswer {
     let sheet = sheet_in(record);
     match kind_of(record) {
         0 => planner::plan(sheet, disk, buffer),
@@ -339,8 +370,8 @@ fn plan(record: &[u8], disk: usize, disks: &[u8], buffer: &mut [u8]) -> Planned 
 }
 
 fn ask(record: &[u8], disk: usize, disks: &[u8], buffer: &mut [u8], copy: &[u8]) {
-    let planned = plan(record, disk, disks, buffer);
-    print_answer(record, disks, planned, buffer, copy);
+    let answer = plan(record, disk, disks, buffer);
+    print_answer(record, disks, answer, buffer, copy);
 }
 
 // Asks about a disk or a set of disks, with a buffer of the record's length. What is answered for one disk is judged by the set of it alone.

@@ -18,17 +18,14 @@ print-plan-requires c κs = tt
 enum-known-planned-2 : tie.Need-enum-known-planned-2
 enum-known-planned-2 c = search needs
 
-low-word-requires : tie.Need-low-word-requires
-low-word-requires c κs = tt
-
 is-same-requires : tie.Need-is-same-requires
 is-same-requires c κs = tt
 
-is-good-requires : tie.Need-is-good-requires
-is-good-requires c κs = tt
+are-good-requires : tie.Need-are-good-requires
+are-good-requires c κs = tt
 
-print-pattern-requires : tie.Need-print-pattern-requires
-print-pattern-requires c κs = tt
+print-patterns-requires : tie.Need-print-patterns-requires
+print-patterns-requires c κs = tt
 
 enum-known-planned-3 : tie.Need-enum-known-planned-3
 enum-known-planned-3 c = search needs
@@ -57,10 +54,9 @@ print-answer-spec =
     same-behind-requires
     print-plan-requires
     enum-known-planned-2
-    low-word-requires
     is-same-requires
-    is-good-requires
-    print-pattern-requires
+    are-good-requires
+    print-patterns-requires
     enum-known-planned-3
     is-same-requires-2
     print-refused-requires

@@ -1,0 +1,59 @@
+-- `planvectors::print_each` prints each of the first patterns: no index is beyond the array. Assumes nothing.
+use Prim.Native.Nat.{_-_, _≤_}
+use native.Mathlib.Omega.{arith}
+use Rattle.bits.specs.Numerals.{setWidth}
+use Rattle.planvectors.proofs.print_each.Statement.{statement}
+use Rattle.planvectors.proofs.print_each.Tie as tie
+
+abbrev Inv-loop : tie.InvT-loop
+Inv-loop count patterns i₀ i = i ≤ setWidth
+
+abbrev μ-loop : tie.MeasureT-loop
+μ-loop count patterns i₀ i = setWidth - i
+
+loop-holds : tie.Need-loop-holds Inv-loop μ-loop
+loop-holds c = omega arith
+
+returns : tie.Need-returns Inv-loop μ-loop
+returns c = tt
+
+mul-low-word : tie.Need-mul-low-word Inv-loop μ-loop
+mul-low-word c = omega arith
+
+array-copy-out-low-word : tie.Need-array-copy-out-low-word Inv-loop μ-loop
+array-copy-out-low-word c = omega arith
+
+low-word-requires : tie.Need-low-word-requires Inv-loop μ-loop
+low-word-requires c κs = tt
+
+print-number-requires : tie.Need-print-number-requires Inv-loop μ-loop
+print-number-requires c κs = tt
+
+add-i : tie.Need-add-i Inv-loop μ-loop
+add-i c = omega arith
+
+loop-less : tie.Need-loop-less Inv-loop μ-loop
+loop-less c = omega arith
+
+loop-again : tie.Need-loop-again Inv-loop μ-loop
+loop-again c = omega arith
+
+returns-2 : tie.Need-returns-2 Inv-loop μ-loop
+returns-2 c = tt
+
+pub print-each-spec : {M : Type 1} → statement M
+print-each-spec =
+    tie.close
+    (tie.spec
+    Inv-loop
+    μ-loop
+    loop-holds
+    returns
+    mul-low-word
+    array-copy-out-low-word
+    low-word-requires
+    print-number-requires
+    add-i
+    loop-less
+    loop-again
+    returns-2)
