@@ -31,6 +31,7 @@
  *   buffer       where a code sheet is to be written                      as long as the sheet, or longer
  *                where a plan sheet is to be written                      3,081 bytes or more; with wanted symbols 3,114 or more;
  *                                                                         for a list of disks 3,210 or more
+ *   index        which of several patterns, from 0                        any number
  *   .._length    the bytes of the buffer named before it
  *
  * A symbol is the XOR of the data symbols whose bits are set in its row of the generator matrix. Bit 0 is the lowest.
@@ -59,6 +60,22 @@
  * source. Kind 2, add: the target becomes target XOR source. A target is a wanted symbol. A source survives, or is a wanted symbol that an
  * earlier step has filled; clear and copy fill their target, add needs it filled.
  * The symbols that are read are the distinct surviving sources of copies and adds.
+ *
+ *
+ * How much is gone
+ *
+ * Where no plan can be, planning answers d PATTERNS: at least 1, and at most as many as there are wanted symbols. A pattern is a set of data
+ * symbols, as K bits: bit t is data symbol t. Its STRIPE is that of the data in which the symbols of the set bits are 01 bytes and the others
+ * 0. It is 0 on every surviving disk: the survivors can't tell a stripe from the XOR of it and the pattern's.
+ *
+ * Take two data disks of one symbol, d0 and d1, and a parity disk, d0 XOR d1. With both data disks lost there is one pattern, 3, which is d0
+ * and d1. Two symbols are lost, but only one is gone: their XOR survives, and who finds one of them has the other. With all three disks lost
+ * there are two patterns, like 1 and 2.
+ *
+ * In general, look at one bit of each symbol, the same one in all of them. The survivors leave 2^d possibilities for these bits of the wanted
+ * symbols, and any two of those differ by the XOR of the patterns' stripes for exactly one choice among the d patterns. d is 0 exactly where
+ * there is a plan. A wanted symbol in which the stripes of all d patterns are 0 is known all the same, and has a plan by itself.
+ * Which d patterns are answered is left open. They are the same whenever the same is asked.
  *
  *
  * Answers and refusals
@@ -188,11 +205,18 @@ typedef struct {
     uint64_t number, place, reads;
 } navorzim_checked;
 
-/* Exactly one of number, length and pattern is not 0. number: refused. length: a plan of so many bytes, and it reads so many symbols.
- * pattern: no plan exists, and this is why (see navorzim_plan, navorzim_plan_wanted and navorzim_plan_disks). */
+/* Exactly one of number, length and patterns is not 0. number: refused. length: a plan of so many bytes, and it reads so many symbols.
+ * patterns: no plan exists, and so many patterns say how much is gone. pattern is the first of them: bit t stands for data symbol t.
+ * pattern_high has the bits of data symbols from 64 on: 0, since K is at most 64. navorzim_lost_pattern answers each of them.
+ * The last two fields are new. A program that was compiled when this struct ended with pattern must be compiled anew. */
 typedef struct {
-    uint64_t number, place, length, reads, pattern;
+    uint64_t number, place, length, reads, pattern, pattern_high, patterns;
 } navorzim_planned;
+
+/* A set of data symbols: bit t of low stands for data symbol t, bit t of high for data symbol 64 + t. Both are 0 on a refusal. */
+typedef struct {
+    uint64_t number, place, low, high;
+} navorzim_set;
 
 /* Bytes start up to start + length of slice 0, the stripe, or of slice 1, the spare strip. Length 0: refused. */
 typedef struct {
@@ -256,8 +280,8 @@ navorzim_checked navorzim_check_disks(const uint8_t *sheet, size_t sheet_length,
  * If it can, a plan sheet of edition 1 is written to the front of the buffer, which must have 3,081 bytes or more, and its length and read
  * count are answered; the bytes after it stay. The plan has at most r * (N - r) steps, and navorzim_check accepts these very bytes with
  * this very count. It need not be the one that reads the fewest symbols.
- * If it can't, by any plan of any length, nothing is written and a pattern is answered: K bits, not all 0. The stripe of the data in which
- * the symbols of the set bits are 01 bytes and the others 0 is 0 on every surviving disk and not 0 on the lost one.
+ * If it can't, by any plan of any length, nothing is written. Answered are the number of patterns and the first of them, whose stripe is 0 on
+ * every surviving disk and not 0 on the lost one ("How much is gone", above).
  * Refusals: the code sheet's, 7, 34. */
 NAVORZIM_ANSWER
 navorzim_planned navorzim_plan(const uint8_t *sheet, size_t sheet_length, uint64_t disk, uint8_t *buffer, size_t buffer_length);
@@ -267,8 +291,8 @@ navorzim_planned navorzim_plan(const uint8_t *sheet, size_t sheet_length, uint64
  * If it can be done, a plan sheet of edition 2 with exactly this list is written to the front of the buffer, which must have 3,114 bytes or
  * more, and its length and read count are answered; the bytes after it stay. The plan has at most r * (N - r) steps, and navorzim_check
  * accepts these very bytes with this very count. It need not be the one that reads the fewest symbols.
- * If it can't, by any plan of any length, nothing is written and a pattern is answered: K bits, not all 0. The stripe of the data in which
- * the symbols of the set bits are 01 bytes and the others 0 is 0 on every surviving disk and not 0 in some wanted symbol.
+ * If it can't, by any plan of any length, nothing is written. Answered are the number of patterns and the first of them, whose stripe is 0 on
+ * every surviving disk and not 0 in some wanted symbol ("How much is gone", above).
  * Refusals: the code sheet's, 7, 23, 34. */
 NAVORZIM_ANSWER
 navorzim_planned navorzim_plan_wanted(const uint8_t *sheet, size_t sheet_length, uint64_t disk, const uint8_t *wanted, size_t wanted_length,
@@ -281,12 +305,21 @@ navorzim_planned navorzim_plan_wanted(const uint8_t *sheet, size_t sheet_length,
  * or more, and its length and read count are answered; the bytes after it stay. Of N symbols with x lost the plan has at most x * (N - x)
  * steps, or, if no disk survives, at most one clear for each wanted symbol. navorzim_check_disks accepts these very bytes with this very
  * count. It need not be the one that reads the fewest symbols.
- * If it can't, by any plan of any length, nothing is written and a pattern is answered: K bits, not all 0. The stripe of the data in which
- * the symbols of the set bits are 01 bytes and the others 0 is 0 on every surviving disk and not 0 in some wanted symbol.
+ * If it can't, by any plan of any length, nothing is written. Answered are the number of patterns and the first of them, whose stripe is 0 on
+ * every surviving disk and not 0 in some wanted symbol ("How much is gone", above).
  * Refusals: the code sheet's, 7, 24, 23, 34. */
 NAVORZIM_ANSWER
 navorzim_planned navorzim_plan_disks(const uint8_t *sheet, size_t sheet_length, const uint8_t *disks, size_t disks_length,
                                      const uint8_t *wanted, size_t wanted_length, uint8_t *buffer, size_t buffer_length);
+
+/* One of the patterns that say how much is gone: where navorzim_plan_disks has no plan for these lists, number `index`, from 0, of the d
+ * patterns that it answers. For those of navorzim_plan and navorzim_plan_wanted the list of disks has their one disk. From d on, and where
+ * there is a plan, low and high are 0, which no pattern is: a program may ask from 0 on until both are 0. Every call plans anew. It asks for
+ * no buffer, and writes nothing.
+ * Refusals: the code sheet's, 7, 24, 23. */
+NAVORZIM_ANSWER
+navorzim_set navorzim_lost_pattern(const uint8_t *sheet, size_t sheet_length, const uint8_t *disks, size_t disks_length, const uint8_t *wanted,
+                                   size_t wanted_length, uint64_t index);
 
 /* ---------------------------------------------------------------------------------------------------------------------------------
  * Rebuild: checks the plan, on every call, and then runs its steps on the stripe. The wanted symbols are written, and all other bytes stay,
