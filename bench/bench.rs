@@ -25,6 +25,8 @@ mod proved {
         length: u64,
         reads: u64,
         pattern: u64,
+        pattern_high: u64,
+        patterns: u64,
     }
 
     type Bytes = *const u8;

@@ -44,7 +44,7 @@ pub struct Checked {
     pub reads: u64,
 }
 
-/// Disks that were planned for: with a length a plan, with a pattern none.
+/// Disks that were planned for: with a length a plan, with patterns none.
 #[repr(C)]
 #[derive(Clone, Copy)]
 pub struct Planned {
@@ -53,6 +53,18 @@ pub struct Planned {
     pub length: u64,
     pub reads: u64,
     pub pattern: u64,
+    pub pattern_high: u64,
+    pub patterns: u64,
+}
+
+/// A set of data symbols: the low 64 and the high 64 of 128 bits.
+#[repr(C)]
+#[derive(Clone, Copy)]
+pub struct Set {
+    pub number: u64,
+    pub place: u64,
+    pub low: u64,
+    pub high: u64,
 }
 
 /// A part of the stripe (slice 0) or of the spare strip (slice 1).
@@ -111,6 +123,15 @@ extern "C" {
         buffer: BytesMut,
         buffer_length: usize,
     ) -> Planned;
+    fn navorzim_lost_pattern(
+        sheet: Bytes,
+        sheet_length: usize,
+        disks: Bytes,
+        disks_length: usize,
+        wanted: Bytes,
+        wanted_length: usize,
+        index: u64,
+    ) -> Set;
     fn navorzim_rebuild(
         sheet: Bytes,
         sheet_length: usize,
@@ -245,6 +266,20 @@ pub fn plan_disks(sheet: &[u8], disks: &[u8], wanted: &[u8], buffer: &mut [u8]) 
             wanted.len(),
             buffer.as_mut_ptr(),
             buffer.len(),
+        )
+    }
+}
+
+pub fn lost_pattern(sheet: &[u8], disks: &[u8], wanted: &[u8], index: u64) -> Set {
+    unsafe {
+        navorzim_lost_pattern(
+            sheet.as_ptr(),
+            sheet.len(),
+            disks.as_ptr(),
+            disks.len(),
+            wanted.as_ptr(),
+            wanted.len(),
+            index,
         )
     }
 }

@@ -28,16 +28,21 @@
 //! ```
 //!
 //! Where one record is enough, [`plan_wanted`] plans for some of the lost symbols. [`check`] and [`rebuild`] take its plan like any
-//! other. [`plan_into`], [`plan_wanted_into`] and [`plan_disks_into`] write to a buffer of the caller's and allocate nothing.
+//! other. [`plan_into`], [`plan_wanted_into`] and [`plan_disks_into`] write to a buffer of the caller's; where there is a plan they
+//! allocate nothing.
 //!
 //! Where more than one disk is lost, [`plan_disks`], [`check_disks`] and [`rebuild_disks`] take a list of disks. The calls that take
 //! one disk mean the list of that disk.
+//!
+//! Where no plan can be, planning answers how much is gone, as [`Pattern`]s.
 #![deny(unsafe_code)]
 #![warn(missing_docs)]
 
 mod ffi;
+mod pattern;
 mod refusal;
 
+pub use pattern::{lost_pattern, Pattern};
 pub use refusal::{Refusal, WantedSymbol};
 
 /// The length of the longest code sheet.
@@ -181,7 +186,7 @@ pub fn check_disks(sheet: &[u8], disks: &[u8], plan: &[u8]) -> Result<u64, Refus
 }
 
 /// What [`plan_into`], [`plan_wanted_into`] and [`plan_disks_into`] answer.
-#[derive(Clone, Copy, Debug, PartialEq, Eq)]
+#[derive(Clone, Debug, PartialEq, Eq)]
 pub enum Planned {
     /// A plan sheet stands at the front of the buffer.
     Plan {
@@ -190,9 +195,11 @@ pub enum Planned {
         /// How many surviving symbols it reads.
         reads: u64,
     },
-    /// No plan can bring all wanted symbols back, and these K bits show it: data whose symbols are 01 bytes where a bit is set, and
-    /// zero elsewhere, gives zero in every surviving symbol and something else in a wanted one. Nothing was written.
-    Pattern(u64),
+    /// There is no plan, as with [`Planning::NoPlan`]. Nothing was written.
+    NoPlan {
+        /// What is gone.
+        patterns: Vec<Pattern>,
+    },
 }
 
 /// What [`plan`], [`plan_wanted`] and [`plan_disks`] answer.
@@ -205,8 +212,12 @@ pub enum Planning {
         /// How many surviving symbols it reads.
         reads: u64,
     },
-    /// There is no plan, as with [`Planned::Pattern`].
-    Pattern(u64),
+    /// No plan of any length can bring all wanted symbols back.
+    NoPlan {
+        /// What is gone: at least one pattern, and at most as many as there are wanted symbols. Each one's stripe is zero in every
+        /// surviving symbol and not zero in some wanted one.
+        patterns: Vec<Pattern>,
+    },
 }
 
 /// Plans the rebuild of a whole disk. The plan sheet is of edition 1.
@@ -216,10 +227,10 @@ pub enum Planning {
 /// In this order: the code sheet's (1 to 6), [`Refusal::NoSuchDisk`].
 ///
 /// ```
-/// use navorzim::{plan, Planning};
+/// use navorzim::{plan, Pattern, Planning};
 /// // Two disks of one symbol each, rows 1 and 2: nothing of disk 0 is on disk 1.
 /// let apart = [4, 1, 2, 1, 2, 2, 1, 0, 0, 0, 0, 0, 0, 0, 2, 0, 0, 0, 0, 0, 0, 0];
-/// assert_eq!(plan(&apart, 0), Ok(Planning::Pattern(1)));
+/// assert_eq!(plan(&apart, 0), Ok(Planning::NoPlan { patterns: vec![Pattern(1)] }));
 /// ```
 pub fn plan(sheet: &[u8], disk: u64) -> Result<Planning, Refusal> {
     owned(|buffer| plan_into(sheet, disk, buffer))
@@ -231,7 +242,7 @@ pub fn plan(sheet: &[u8], disk: u64) -> Result<Planning, Refusal> {
 ///
 /// In this order: the code sheet's (1 to 6), [`Refusal::NoSuchDisk`], [`Refusal::PlanBufferTooShort`].
 pub fn plan_into(sheet: &[u8], disk: u64, buffer: &mut [u8]) -> Result<Planned, Refusal> {
-    planned(ffi::plan(sheet, disk, buffer))
+    planned(ffi::plan(sheet, disk, buffer), sheet, &as_list(disk), &[])
 }
 
 /// Plans the rebuild of some symbols of a disk. `wanted` holds their numbers, disk × r + row, rising.
@@ -273,7 +284,7 @@ pub fn plan_wanted(sheet: &[u8], disk: u64, wanted: &[u8]) -> Result<Planning, R
 ///
 /// In this order: the code sheet's (1 to 6), [`Refusal::NoSuchDisk`], [`Refusal::BadWantedList`], [`Refusal::PlanBufferTooShort`].
 pub fn plan_wanted_into(sheet: &[u8], disk: u64, wanted: &[u8], buffer: &mut [u8]) -> Result<Planned, Refusal> {
-    planned(ffi::plan_wanted(sheet, disk, wanted, buffer))
+    planned(ffi::plan_wanted(sheet, disk, wanted, buffer), sheet, &as_list(disk), wanted)
 }
 
 /// Plans the rebuild of several disks, or of some of their symbols. `disks` holds the numbers of the lost disks, rising; `wanted` those
@@ -319,17 +330,22 @@ pub fn plan_disks(sheet: &[u8], disks: &[u8], wanted: &[u8]) -> Result<Planning,
 /// In this order: the code sheet's (1 to 6), [`Refusal::NoSuchDisk`], [`Refusal::BadDiskList`], [`Refusal::BadWantedList`],
 /// [`Refusal::PlanBufferTooShort`].
 pub fn plan_disks_into(sheet: &[u8], disks: &[u8], wanted: &[u8], buffer: &mut [u8]) -> Result<Planned, Refusal> {
-    planned(ffi::plan_disks(sheet, disks, wanted, buffer))
+    planned(ffi::plan_disks(sheet, disks, wanted, buffer), sheet, disks, wanted)
 }
 
-/// Planning's answer, by its case.
-fn planned(answer: ffi::Planned) -> Result<Planned, Refusal> {
-    let case = if answer.length > 0 {
-        Planned::Plan { length: answer.length as usize, reads: answer.reads }
-    } else {
-        Planned::Pattern(answer.pattern)
-    };
-    unless_refused(answer.number, answer.place, case)
+/// The list of one disk. A disk that a byte can't hold has been refused before it is asked about.
+fn as_list(disk: u64) -> [u8; 1] {
+    [disk as u8]
+}
+
+/// Planning's answer for these lists, by its case.
+fn planned(answer: ffi::Planned, sheet: &[u8], disks: &[u8], wanted: &[u8]) -> Result<Planned, Refusal> {
+    unless_refused(answer.number, answer.place, ())?;
+    if answer.length > 0 {
+        return Ok(Planned::Plan { length: answer.length as usize, reads: answer.reads });
+    }
+    let patterns = (0..answer.patterns).filter_map(|index| lost_pattern(sheet, disks, wanted, index).transpose());
+    Ok(Planned::NoPlan { patterns: patterns.collect::<Result<_, _>>()? })
 }
 
 /// Plans into a buffer of its own, which becomes the plan.
@@ -340,7 +356,7 @@ fn owned(plan_into: impl FnOnce(&mut [u8]) -> Result<Planned, Refusal>) -> Resul
             buffer.truncate(length);
             Planning::Plan { plan: buffer, reads }
         }
-        Planned::Pattern(pattern) => Planning::Pattern(pattern),
+        Planned::NoPlan { patterns } => Planning::NoPlan { patterns },
     })
 }
 

@@ -1,10 +1,10 @@
 //! The proved library against an independent reading of the rules (`model`): random, special and damaged inputs, every answer and every
-//! lent byte compared. Each test prints its seed and how many calls it made: together they are more than 700,000.
+//! lent byte compared. Each test prints its seed and how many calls it made: together they are more than 800,000.
 mod model;
 
 use model::random::{self, Random};
 use model::{Asked, No};
-use navorzim::{Family, Planned, Planning, Refusal};
+use navorzim::{Family, Pattern, Planned, Planning, Refusal};
 
 /// An answer of the library as the model gives it.
 fn told<T>(answer: Result<T, Refusal>) -> Result<T, No> {
@@ -295,15 +295,9 @@ fn checking_for_a_list_of_disks() {
     judged.enough(3, 5_000, &[7, 11, 12, 13, 15, 16, 17, 18, 19, 20, 21, 22, 23, 24, 25]);
 }
 
-/// Planning's answer, if nothing was refused.
-#[derive(Clone, Copy, Debug, PartialEq)]
-enum Answer {
-    Plan,
-    Pattern,
-}
-
-/// Plans into a buffer that held `before`, and holds the answer and every byte to the rules.
-fn judged_planning(sheet: &[u8], asked: Asked, before: &[u8]) -> Option<Answer> {
+/// Plans into a buffer that held `before`, and holds the answer and every byte to the rules. If nothing is refused, answers how much is
+/// gone, which is 0 where there is a plan.
+fn judged_planning(sheet: &[u8], asked: Asked, before: &[u8]) -> Option<usize> {
     let mut buffer = before.to_vec();
     let answer = told(planned(sheet, asked, &mut buffer));
     let context = || format!("{sheet:?} {asked:?}");
@@ -313,7 +307,7 @@ fn judged_planning(sheet: &[u8], asked: Asked, before: &[u8]) -> Option<Answer> 
             None
         }
         (Ok((code, disks, wanted)), Ok(Planned::Plan { length, reads })) => {
-            assert!(model::can_be_rebuilt(&code, &disks, &wanted), "{}", context());
+            assert_eq!(model::gone(&code, &disks, &wanted), 0, "{}", context());
             let head = head(&code, asked, reads as u8);
             assert_eq!(buffer[..head.len()], head, "{}", context());
             let written = model::read_plan(&code, &disks, &buffer[..length]).expect("a whole sheet");
@@ -321,14 +315,15 @@ fn judged_planning(sheet: &[u8], asked: Asked, before: &[u8]) -> Option<Answer> 
             assert_eq!(written.wanted, wanted, "{}", context());
             assert_eq!(model::check_disks(sheet, &disks, &buffer[..length]), Ok(reads), "{}", context());
             assert_eq!(&buffer[length..], &before[length..], "{}", context());
-            Some(Answer::Plan)
+            Some(0)
         }
-        (Ok((code, disks, wanted)), Ok(Planned::Pattern(pattern))) => {
+        (Ok((code, disks, wanted)), Ok(Planned::NoPlan { patterns })) => {
+            let bits: Vec<u128> = patterns.iter().map(|pattern| pattern.0).collect();
             let size = 1 + wanted.len() % 3;
-            assert!(!model::can_be_rebuilt(&code, &disks, &wanted), "{}", context());
-            assert!(model::good_pattern(&code, &disks, &wanted, pattern, size), "{} {pattern}", context());
+            assert!(!bits.is_empty(), "{}", context());
+            assert!(model::tell_what_is_gone(&code, &disks, &wanted, &bits, size), "{} {bits:?}", context());
             assert_eq!(buffer, before, "{}", context());
-            Some(Answer::Pattern)
+            Some(bits.len())
         }
         (Ok(_), Err(no)) => panic!("refused {no:?} {}", context()),
     }
@@ -358,8 +353,8 @@ fn planning() {
         let length = if random.one_in(8) { random.pick(&[0, 9, 3080]) } else { 3081 + random.pick(&[0, 0, 0, 1, 50]) };
         let before = random.bytes(length);
         let answer = judged_planning(&sheet, Asked::Disk(disk), &before);
-        plans += (answer == Some(Answer::Plan)) as u32;
-        patterns += (answer == Some(Answer::Pattern)) as u32;
+        plans += (answer == Some(0)) as u32;
+        patterns += (answer > Some(0)) as u32;
     }
     assert!(plans > 10_000 && patterns > 5_000, "{plans} plans, {patterns} patterns");
 }
@@ -380,11 +375,11 @@ fn planning_with_a_list() {
             if random.one_in(8) { random.pick(&[0, 3081, 3113]) } else { 3114 + random.pick(&[0, 0, 0, 1, 50]) };
         let before = random.bytes(length);
         let answer = judged_planning(&sheet, Asked::Wanted(asked, &list), &before);
-        plans += (answer == Some(Answer::Plan)) as u32;
-        patterns += (answer == Some(Answer::Pattern)) as u32;
+        plans += (answer == Some(0)) as u32;
+        patterns += (answer > Some(0)) as u32;
         // Some symbols of a disk that as a whole has no plan.
-        let rescue = answer == Some(Answer::Plan) && list.len() < code.height;
-        rescued += (rescue && judged_planning(&sheet, Asked::Disk(asked), &before) == Some(Answer::Pattern)) as u32;
+        let rescue = answer == Some(0) && list.len() < code.height;
+        rescued += (rescue && judged_planning(&sheet, Asked::Disk(asked), &before) > Some(0)) as u32;
     }
     println!("{plans} plans, {patterns} patterns, {rescued} plans for symbols of a disk that has none");
     assert!(plans > 20_000 && patterns > 5_000 && rescued > 500, "{plans} {patterns} {rescued}");
@@ -409,14 +404,156 @@ fn planning_for_a_list_of_disks() {
         let before = random.bytes(length);
         let answer = judged_planning(&sheet, Asked::Disks(&disks, &list), &before);
         let several = disks.len().min(2);
-        plans[several] += (answer == Some(Answer::Plan)) as u32;
-        patterns[several] += (answer == Some(Answer::Pattern)) as u32;
-        let rescue = answer == Some(Answer::Plan) && !list.is_empty();
-        rescued +=
-            (rescue && judged_planning(&sheet, Asked::Disks(&disks, &[]), &before) == Some(Answer::Pattern)) as u32;
+        plans[several] += (answer == Some(0)) as u32;
+        patterns[several] += (answer > Some(0)) as u32;
+        let rescue = answer == Some(0) && !list.is_empty();
+        rescued += (rescue && judged_planning(&sheet, Asked::Disks(&disks, &[]), &before) > Some(0)) as u32;
     }
     println!("plans {plans:?}, patterns {patterns:?} for one disk and for several, {rescued} plans for symbols of disks that have none");
     assert!(plans[2] > 8_000 && patterns[2] > 8_000 && rescued > 500, "{plans:?} {patterns:?} {rescued}");
+}
+
+/// Each pattern by its index: those that planning answered, in this order, and none from their number on.
+#[test]
+fn patterns_by_index() {
+    let mut random = Random::new(24);
+    let (mut refused, mut found, mut beyond, mut most) = ([0; 25], 0, 0, 0);
+    for _ in 0..calls(80_000) {
+        let (code, sheet) = sheet(&mut random);
+        let mut disks = random::disks(&mut random, &code);
+        let mut list = if random.one_in(2) { Vec::new() } else { random::list(&mut random, &code, &disks) };
+        if !list.is_empty() && random.one_in(6) {
+            list = random::damaged_list(&mut random, &code, &list);
+        }
+        if random.one_in(8) {
+            disks = random::damaged_disks(&mut random, &code, &disks);
+        }
+        let patterns = match told(navorzim::plan_disks(&sheet, &disks, &list)) {
+            Ok(Planning::NoPlan { patterns }) => Ok(patterns),
+            Ok(Planning::Plan { .. }) => Ok(vec![]),
+            Err(no) => Err(no),
+        };
+        let gone = patterns.as_ref().map_or(0, Vec::len);
+        let near = [0, gone.saturating_sub(1), gone, gone + 1, random.below(gone)];
+        let index = random.pick(&[&near.map(|index| index as u64)[..], &[63, 64, 65, 128, 1 << 32, u64::MAX]].concat());
+        let expected = patterns.map(|patterns| patterns.get(index.min(1000) as usize).copied());
+        let answer = told(navorzim::lost_pattern(&sheet, &disks, &list, index));
+        assert_eq!(answer, expected, "{sheet:?} {disks:?} {list:?} {index}");
+        match model::plan_refusal(&sheet, Asked::Disks(&disks, &list), navorzim::PLAN_BUFFER) {
+            Err(no) => {
+                refused[no.0 as usize] += 1;
+                assert_eq!(answer, Err(no), "{sheet:?} {disks:?} {list:?} {index}");
+            }
+            Ok(_) => {
+                most = most.max(gone);
+                found += matches!(answer, Ok(Some(_))) as u32;
+                beyond += matches!(answer, Ok(None)) as u32;
+            }
+        }
+    }
+    println!("{found} patterns, {beyond} beyond the last, at most {most} of an array; refused, by number: {refused:?}");
+    assert!(found > 5_000 && beyond > 20_000 && most > 40, "{found} {beyond} {most}");
+    assert!([1, 2, 3, 4, 5, 6, 7, 23, 24].iter().all(|&number| refused[number] > 20), "{refused:?}");
+}
+
+/// Refusals in their order: the code sheet's, 7, 24, 23. A plan, or an index that is too large, hides none of them.
+#[test]
+fn refusals_of_a_pattern() {
+    let sheet = Family::SingleParity { data_disks: 3, rows: 4 }.sheet().expect("listed");
+    for index in [0, 3, 4, 64, u64::MAX] {
+        for (sheet, disks, list, no) in [
+            (&sheet[..9], &[9, 0][..], &[99][..], (1, 0)),
+            (&with(&sheet, 1, 9), &[9, 0], &[99], (4, 0)),
+            (&sheet, &[1, 0, 4], &[99], (7, 0)),
+            (&sheet, &[0, 0, 0, 0, 0], &[99], (24, 0)),
+            (&sheet, &[], &[99], (24, 0)),
+            (&sheet, &[1, 0], &[99], (24, 1)),
+            (&sheet, &[0, 1], &[99], (23, 0)),
+            (&sheet, &[0, 1], &[0, 4, 8], (23, 2)),
+            (&sheet, &[0], &[0, 1, 2, 3, 3], (23, 0)),
+        ] {
+            assert_eq!(told(navorzim::lost_pattern(sheet, disks, list, index)), Err(no), "{disks:?} {list:?} {index}");
+        }
+        // One disk has a plan; of two disks the four rows are gone, each a pattern.
+        assert_eq!(navorzim::lost_pattern(&sheet, &[0], &[], index), Ok(None));
+        assert_eq!(navorzim::lost_pattern(&sheet, &[0, 1], &[], index).map(|found| found.is_some()), Ok(index < 4));
+    }
+}
+
+/// Small codes, and every list of the disks' symbols: what the patterns say is held to all data that there can be.
+#[test]
+fn how_much_is_gone_by_trying() {
+    let mut random = Random::new(25);
+    let mut of_gone = [0; 7];
+    for _ in 0..1_500 {
+        let (disks, height, data) = (2 + random.below(3), 1 + random.below(2), 1 + random.below(6));
+        let rows = (0..disks * height).map(|_| (0..data).map(|_| random.one_in(3)).collect()).collect();
+        let code = model::Code { disks, height, data, rows };
+        let lost = random::disks(&mut random, &code);
+        let list = if random.one_in(3) { Vec::new() } else { random::list(&mut random, &code, &lost) };
+        let wanted = model::wanted_list(&code, &lost, &list, 0).expect("good");
+        let patterns = match navorzim::plan_disks(&code.sheet(), &lost, &list).expect("good") {
+            Planning::Plan { .. } => Vec::new(),
+            Planning::NoPlan { patterns } => patterns.iter().map(|pattern| pattern.0).collect(),
+        };
+        let told = model::tell_what_is_gone_by_trying(&code, &lost, &wanted, &patterns);
+        assert!(told, "{code:?} {lost:?} {list:?} {patterns:?}");
+        of_gone[patterns.len()] += 1;
+    }
+    println!("arrays, by how much is gone: {of_gone:?}");
+    assert!(of_gone[..4].iter().all(|&count| count > 10), "{of_gone:?}");
+}
+
+/// The model itself: answers that may stand, and wrong ones, are told apart by ranks as by trying all data.
+#[test]
+fn wrong_patterns_are_caught() {
+    // Three data disks of two rows, d0 to d5, and parity. Disks 0 and 1 are lost, symbols 0 to 3: d0 and d2 could be others, d1 and d3 too.
+    let sheet = Family::SingleParity { data_disks: 3, rows: 2 }.sheet().expect("listed");
+    let code = model::read_code(&sheet).expect("good");
+    let (row_0, row_1) = (0b0101, 0b1010);
+    for (wanted, patterns, right) in [
+        (&[0, 1, 2, 3][..], &[row_0, row_1][..], true),
+        (&[0, 1, 2, 3], &[row_0 ^ row_1, row_1], true),
+        (&[0], &[row_0], true),
+        (&[0], &[row_0 ^ row_1], true),
+        // One short, none at all, one too many, one twice.
+        (&[0, 1, 2, 3], &[row_0], false),
+        (&[0, 1, 2, 3], &[], false),
+        (&[0, 1, 2, 3], &[row_0, row_1, row_0 ^ row_1], false),
+        (&[0, 1, 2, 3], &[row_0, row_0], false),
+        // Independent on the lost symbols, not on the wanted ones.
+        (&[0, 2], &[row_0, row_0 ^ row_1], false),
+        (&[0, 2], &[row_0, row_1], false),
+        // The first shows on no wanted symbol.
+        (&[0], &[row_1], false),
+        (&[0, 1, 2, 3], &[0, row_1], false),
+        // One shows on a survivor, or has a bit at K.
+        (&[0, 1, 2, 3], &[row_0, row_1 ^ 0b10000], false),
+        (&[0, 1, 2, 3], &[row_0, row_1 ^ 0b1000000], false),
+    ] {
+        assert_eq!(model::tell_what_is_gone(&code, &[0, 1], wanted, patterns, 2), right, "{wanted:?} {patterns:?}");
+        let by_trying = model::tell_what_is_gone_by_trying(&code, &[0, 1], wanted, patterns);
+        assert_eq!(by_trying, right, "by trying: {wanted:?} {patterns:?}");
+    }
+}
+
+/// What a pattern says of itself: its data symbols, and the symbols that it shows on.
+#[test]
+fn what_a_pattern_shows_on() {
+    let mut random = Random::new(26);
+    for _ in 0..calls(20_000) {
+        let (_, sheet) = sheet(&mut random);
+        let bits = u128::from(random.next()) << random.pick(&[0, 40, 64]) >> random.below(100);
+        let pattern = Pattern(bits);
+        assert_eq!(pattern.data_symbols().fold(0, |sum, t| sum | 1 << t), bits);
+        assert!([128, usize::MAX].iter().all(|&beyond| !pattern.has(beyond)));
+        let expected = model::read_code(&sheet).map(|code| {
+            let data: Vec<u8> = (0..code.data).map(|t| (bits >> t & 1) as u8).collect();
+            let stripe = model::scatter(&code, 1, &data);
+            (0..code.symbols() as u8).filter(|&s| stripe[s as usize] == 1).collect::<Vec<u8>>()
+        });
+        assert_eq!(told(pattern.shows_on(&sheet)), expected, "{sheet:?} {bits}");
+    }
 }
 
 /// A stripe for a rebuild: a valid one with its lost strips ruined, and what it was, or any bytes.
@@ -846,11 +983,11 @@ fn all_disks_lost() {
     };
     let all: Vec<u8> = (0..64).collect();
     let (zero, one) = (zero_but_one(64), zero_but_one(63));
-    assert_eq!(judged_planning(&zero, Asked::Disks(&all, &[]), &[1; 3210]), Some(Answer::Plan));
-    assert_eq!(judged_planning(&zero, Asked::Disks(&all, &all), &[1; 3210]), Some(Answer::Plan));
-    assert_eq!(judged_planning(&one, Asked::Disks(&all, &[]), &[1; 3210]), Some(Answer::Pattern));
-    assert_eq!(judged_planning(&one, Asked::Disks(&all, &all[..63]), &[1; 3210]), Some(Answer::Plan));
-    assert_eq!(judged_planning(&one, Asked::Disks(&all, &[63]), &[1; 3210]), Some(Answer::Pattern));
+    assert_eq!(judged_planning(&zero, Asked::Disks(&all, &[]), &[1; 3210]), Some(0));
+    assert_eq!(judged_planning(&zero, Asked::Disks(&all, &all), &[1; 3210]), Some(0));
+    assert_eq!(judged_planning(&one, Asked::Disks(&all, &[]), &[1; 3210]), Some(1));
+    assert_eq!(judged_planning(&one, Asked::Disks(&all, &all[..63]), &[1; 3210]), Some(0));
+    assert_eq!(judged_planning(&one, Asked::Disks(&all, &[63]), &[1; 3210]), Some(1));
     // The longest sheet of all: every disk, every symbol, and 1,024 steps.
     let mut plan = [&[5, 3, 64, 1, 1, 0, 64][..], &all, &[64], &all, &[0, 4]].concat();
     plan.extend((0..16).flat_map(|_| all.iter().flat_map(|&s| [0, s, 0])));
@@ -894,16 +1031,16 @@ fn a_row_of_a_disk_beyond_help() {
     let sheet = model::Code { disks: 4, height: 2, data: 6, rows }.sheet();
     let before = [9; 3210];
     let judge = |asked: Asked| judged_planning(&sheet, asked, &before);
-    assert_eq!(judge(Asked::Disk(1)), Some(Answer::Pattern));
-    assert_eq!(judge(Asked::Disks(&[1], &[])), Some(Answer::Pattern));
-    for (list, answer) in [(&[2, 3][..], Answer::Pattern), (&[3], Answer::Pattern), (&[2], Answer::Plan)] {
-        assert_eq!(judge(Asked::Wanted(1, list)), Some(answer));
-        assert_eq!(judge(Asked::Disks(&[1], list)), Some(answer));
+    assert_eq!(judge(Asked::Disk(1)), Some(1));
+    assert_eq!(judge(Asked::Disks(&[1], &[])), Some(1));
+    for (list, gone) in [(&[2, 3][..], 1), (&[3], 1), (&[2], 0)] {
+        assert_eq!(judge(Asked::Wanted(1, list)), Some(gone));
+        assert_eq!(judge(Asked::Disks(&[1], list)), Some(gone));
     }
     // With the parity disk gone too, only disk 0's row 1 has an equation left, and none of disk 1.
-    assert_eq!(judge(Asked::Disks(&[1, 3], &[2])), Some(Answer::Pattern));
-    assert_eq!(judge(Asked::Disks(&[0, 1], &[1])), Some(Answer::Plan));
-    assert_eq!(navorzim::plan_wanted(&sheet, 1, &[3]), Ok(Planning::Pattern(8)));
+    assert_eq!(judge(Asked::Disks(&[1, 3], &[2])), Some(1));
+    assert_eq!(judge(Asked::Disks(&[0, 1], &[1])), Some(0));
+    assert_eq!(navorzim::plan_wanted(&sheet, 1, &[3]), Ok(Planning::NoPlan { patterns: vec![Pattern(8)] }));
 
     let Ok(Planning::Plan { plan, reads: 3 }) = navorzim::plan_wanted(&sheet, 1, &[2]) else { panic!("no plan") };
     let whole = [1, 2, 3, 4, 5, 6, 1 ^ 3 ^ 5, 2 ^ 6];

@@ -1,6 +1,6 @@
 //! The rules once more, in plain Rust and by other means than the proved library: rows are lists of truth values, a lost place is a
 //! value that may be missing, a good list is found among all disks or all lost symbols from front to back, encoding scatters each data
-//! symbol, and whether symbols can be rebuilt is a question of ranks.
+//! symbol, and how much of the wanted symbols is gone is a question of ranks.
 #![allow(dead_code)]
 use std::cmp::Ordering;
 use std::collections::HashSet;
@@ -412,13 +412,18 @@ pub fn rank(rows: &[Row]) -> usize {
     done
 }
 
-/// Whether symbols of lost disks can be rebuilt: their rows add nothing to the rank of the survivors'.
-pub fn can_be_rebuilt(code: &Code, disks: &[u8], wanted: &[usize]) -> bool {
+/// How much is gone of symbols of lost disks: what their rows add to the rank of the survivors'.
+pub fn gone(code: &Code, disks: &[u8], wanted: &[usize]) -> usize {
     let lost = code.strips(disks);
     let mut rows: Vec<Row> = (0..code.symbols()).filter(|s| !lost.contains(s)).map(|s| code.rows[s].clone()).collect();
     let surviving = rank(&rows);
     rows.extend(wanted.iter().map(|&s| code.rows[s].clone()));
-    rank(&rows) == surviving
+    rank(&rows) - surviving
+}
+
+/// Whether symbols of lost disks can be rebuilt.
+pub fn can_be_rebuilt(code: &Code, disks: &[u8], wanted: &[usize]) -> bool {
+    gone(code, disks, wanted) == 0
 }
 
 /// What planning is asked about.
@@ -452,16 +457,54 @@ pub fn plan_refusal(sheet: &[u8], asked: Asked, buffer_length: usize) -> Result<
     Ok((code, disks, wanted))
 }
 
+/// The stripe of a pattern: data symbol t is 01 bytes where bit t is set, zero elsewhere. None if it has a bit at K or above.
+fn pattern_stripe(code: &Code, pattern: u128, size: usize) -> Option<Vec<u8>> {
+    let data: Vec<u8> = (0..128).flat_map(|t| vec![(pattern >> t & 1) as u8; size]).collect();
+    let (data, beyond) = data.split_at(code.data * size);
+    beyond.iter().all(|&byte| byte == 0).then(|| scatter(code, size, data))
+}
+
+/// Whether a stripe is zero in each of some symbols.
+fn zero_in(stripe: &[u8], size: usize, mut symbols: impl Iterator<Item = usize>) -> bool {
+    symbols.all(|s| stripe[s * size..(s + 1) * size].iter().all(|&byte| byte == 0))
+}
+
 /// Whether a pattern is good: K bits, its stripe zero on every survivor and not zero in a wanted symbol.
-pub fn good_pattern(code: &Code, disks: &[u8], wanted: &[usize], pattern: u64, size: usize) -> bool {
-    if code.data < 64 && pattern >> code.data != 0 {
+pub fn good_pattern(code: &Code, disks: &[u8], wanted: &[usize], pattern: impl Into<u128>, size: usize) -> bool {
+    let Some(stripe) = pattern_stripe(code, pattern.into(), size) else { return false };
+    let lost = code.strips(disks);
+    zero_in(&stripe, size, (0..code.symbols()).filter(|s| !lost.contains(s)))
+        && !zero_in(&stripe, size, wanted.iter().copied())
+}
+
+/// What a pattern's stripe shows on each wanted symbol.
+fn image(code: &Code, wanted: &[usize], pattern: u128) -> Row {
+    let stripe = pattern_stripe(code, pattern, 1).expect("K bits");
+    wanted.iter().map(|&s| stripe[s] != 0).collect()
+}
+
+/// Whether patterns say what is gone: as many as are gone, each a good one, and their images on the wanted symbols independent.
+pub fn tell_what_is_gone(code: &Code, disks: &[u8], wanted: &[usize], patterns: &[u128], size: usize) -> bool {
+    patterns.len() == gone(code, disks, wanted)
+        && patterns.iter().all(|&pattern| good_pattern(code, disks, wanted, pattern, size))
+        && rank(&patterns.iter().map(|&pattern| image(code, wanted, pattern)).collect::<Vec<Row>>()) == patterns.len()
+}
+
+/// The same by trying all data of one bit a symbol, of which there are few: each pattern is zero on the survivors, and whatever is zero there
+/// shows the XOR of the images of exactly one subset of the patterns.
+pub fn tell_what_is_gone_by_trying(code: &Code, disks: &[u8], wanted: &[usize], patterns: &[u128]) -> bool {
+    let survivors = |s: &usize| !code.strips(disks).contains(s);
+    let unseen = |data: &u128| {
+        pattern_stripe(code, *data, 1).is_some_and(|stripe| zero_in(&stripe, 1, (0..code.symbols()).filter(survivors)))
+    };
+    if !patterns.iter().all(unseen) {
         return false;
     }
-    let data: Vec<u8> = (0..code.data).flat_map(|t| vec![(pattern >> t & 1) as u8; size]).collect();
-    let stripe = scatter(code, size, &data);
-    let zero = |s: usize| stripe[s * size..(s + 1) * size].iter().all(|&byte| byte == 0);
-    let lost = code.strips(disks);
-    (0..code.symbols()).all(|s| lost.contains(&s) || zero(s)) && wanted.iter().any(|&s| !zero(s))
+    let sums = (0..1u32 << patterns.len())
+        .map(|subset| (0..patterns.len()).filter(|i| subset >> i & 1 == 1).fold(0, |sum, i| sum ^ patterns[i]));
+    let subsets: Vec<Row> = sums.map(|sum| image(code, wanted, sum)).collect();
+    let mut all = (0..1u128 << code.data).filter(unseen).map(|data| image(code, wanted, data));
+    all.all(|shown| subsets.iter().filter(|&subset| *subset == shown).count() == 1)
 }
 
 /// One strip: code sheet, 7, 31, 32. The answer is its first byte and its end.

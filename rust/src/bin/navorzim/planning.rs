@@ -21,7 +21,7 @@ fn ask(code: &Code, disks: &Disks, wanted: &Wanted) -> Result<Planning, Refusal>
 pub fn plan_anew(code: &Code, disks: &Disks, wanted: &Wanted) -> Result<Result<Plan, Stuck>, Failure> {
     match ask(code, disks, wanted) {
         Ok(Planning::Plan { plan, .. }) => Ok(Ok(Plan { file: code.file.clone(), sheet: plan })),
-        Ok(Planning::Pattern(bits)) => Ok(Err(stuck(code, disks, wanted, bits))),
+        Ok(Planning::NoPlan { patterns }) => Ok(Err(stuck(code, disks, wanted, patterns[0].0 as u64))),
         Err(refusal) => Err(match (refusal, wanted) {
             (Refusal::BadWantedList { position }, Wanted::Symbols(symbols)) => {
                 Failure::refused(refusal, wanted::fault(code, disks, symbols, position), &code.file)
