@@ -1,10 +1,10 @@
-"""The records of planning: every family, codes of every shape that can and can't be rebuilt, lists of wanted symbols, sets of disks, and
-every refusal."""
+"""The records of planning: every family, codes of every shape that can and can't be rebuilt, lists of wanted symbols, sets of disks, every
+refusal, and codes of which more and more is gone."""
 from collections import Counter
 from itertools import combinations, product
 from typing import Iterable, Optional
 
-from arrays import SMALLEST, SPECIAL_CODES, below, chosen, low_rank_code, random_bytes, random_code, random_codes
+from arrays import SMALLEST, SPECIAL_CODES, below, chosen, low_rank_code, random_bytes, random_code, random_codes, random_row, shuffled
 from plan_vectors import family_codes, planted_codes, some_disks
 from edition3_vectors import ASKED_SETS, COPIES, EVERY, LONGER_SETS, ZEROS, all_sets, any_set
 from plans import all_lists, planted_code, restorable, some_lists, torn_codes
@@ -407,3 +407,66 @@ def add_set_questions(questions: Questions) -> None:
     add_sets_of_large_codes(questions)
     add_all_lost(questions)
     add_bad_sets(questions)
+
+
+# How much is gone
+
+
+def partly_gone(gone: int, height: int) -> Code:
+    """Three disks. Of disk 0 so many rows have a data symbol that no other row has, and the others are sums of survivors."""
+    surviving = [random_row(height) for _ in range(2 * height)]
+    own = [2 ** (height + row) if row < gone else 0 for row in range(height)]
+    lost = [row ^ chosen(surviving) ^ chosen(surviving) for row in shuffled(own)]
+    return Code(3, height, 2 * height, (*lost, *surviving))
+
+
+def add_partly_gone(questions: Questions) -> None:
+    """From nothing of a disk to all of it. Lists of what is left, of what is gone, and of some of both, by which less is gone."""
+    for height in (1, 3, 8):
+        for gone in range(height + 1):
+            code = partly_gone(gone, height)
+            lost, can = lost_places(code, [0]), restorable(code, [0])
+            lists = [can, [place for place in lost if place not in can], sorted(shuffled(lost)[: 1 + height // 2]), lost]
+            questions.add_code("gone, part of a disk", code, [0])
+            questions.add_lists("gone, part of a disk", code, 0, filter(None, lists))
+            for disks, listed in [([0], []), ([0], lists[2]), ([0, 1], []), ([0, 1], lists[2]), ([0, 1, 2], [])]:
+                questions.add_set("gone, part of a disk", sheet_of(code), disks, listed)
+
+
+def add_every_list(questions: Questions) -> None:
+    """Small codes, with each list of two lost disks: from nothing to all of them."""
+    for data_symbols in (1, 2, 4, 6, 9):
+        code = random_code(3, 2, data_symbols)
+        for listed in all_lists(code, [0, 2]):
+            questions.add_set("gone, every list", sheet_of(code), [0, 2], listed)
+
+
+def add_less_than_lost(questions: Questions) -> None:
+    """Symbols that are lost together: all the same, in pairs of which the sum survives, or more than the code has data symbols."""
+    same, pairs = Code(2, 8, 2, (1,) * 8 + (2,) * 8), Code(2, 8, 8, (1, 2, 4, 8, 16, 32, 64, 128, 3, 12, 48, 192, 0, 0, 0, 0))
+    for code in (same, pairs, Code(2, 8, 3, pairs.rows[:3] * 2 + (0,) * 10)):
+        questions.add_code("gone, less than is lost", code, [0])
+        questions.add_lists("gone, less than is lost", code, 0, [[0], [0, 1], [0, 2], [0, 1, 2, 3], [5, 6, 7]])
+        questions.add_set("gone, less than is lost", sheet_of(code), [0, 1])
+
+
+def add_all_gone(questions: Questions) -> None:
+    """As many patterns as there are wanted symbols, up to 64; and wanted symbols that are zero, of which nothing is ever gone."""
+    units = tuple(2**bit for bit in range(64))
+    for code in (Code(64, 1, 64, units), Code(2, 32, 64, units), Code(8, 8, 64, units[::-1])):
+        every = list(range(code.disks))
+        questions.add_code("gone, all of it", code, [0, code.disks - 1])
+        for disks, listed in [(every, []), (every, EVERY), (every, EVERY[::2]), (every, EVERY[:1]), (every[1:], []), (every[:1], [])]:
+            questions.add_set("gone, all of it", sheet_of(code), disks, listed)
+    half = Code(4, 16, 32, units[:32] + (0,) * 32)
+    for disks, listed in [([0, 1, 2, 3], []), ([0, 3], []), ([0, 3], EVERY[48:]), ([2, 3], []), ([1, 2], EVERY[24:40]), ([3], EVERY[48:50])]:
+        questions.add_set("gone, zero rows wanted", sheet_of(half), disks, listed)
+    questions.add_lists("gone, zero rows wanted", HALF, 1, [[2], [3], [2, 3]])
+    questions.add_lists("gone, zero rows wanted", half, 2, [EVERY[32:48]])
+
+
+def add_gone_questions(questions: Questions) -> None:
+    add_partly_gone(questions)
+    add_every_list(questions)
+    add_less_than_lost(questions)
+    add_all_gone(questions)

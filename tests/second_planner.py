@@ -1,20 +1,22 @@
 """The second program's planner: what planning may answer, for one disk or a set of disks, with a list of wanted symbols or without one,
 worked out anew.
 
-Which plan or which pattern is given is free, so it makes neither. It says whether the wanted symbols can be rebuilt, by the echelon form
-of the surviving rows, and judges what was given: a plan by running it on stripes, a pattern by encoding its bytes.
+Which plan or which patterns are given is free, so it makes neither. It says how much of the wanted symbols is gone, by the echelon form of
+the surviving rows, and judges what was given: a plan by running it on stripes, patterns by encoding their bytes.
 
     python3 tests/second_planner.py     runs its own test, on the worked cases of document 01 and on answers that are wrong; then it
                                         judges crates/planvectors/stdout, line by line, against the records of crates/planvectors/stdin
 """
 import sys
 from collections import Counter
-from itertools import combinations
+from functools import reduce
+from itertools import chain, combinations, combinations_with_replacement
+from operator import xor
 from pathlib import Path
 from random import Random
 from typing import Iterable, NamedTuple, Optional, Sequence
 
-from second import SQUARE, Code, Refusal, changed, encoding, evenodd, liberation, rank, read_code, row_diagonal, sheet_of
+from second import SQUARE, Code, Refusal, changed, encoding, evenodd, liberation, rank, read_code, row_diagonal, sheet_of, single_parity
 from second_checker import ADD, CLEAR, COPY, P2, ROW_1, TWO_DISKS, Disks, Listed, Step, check, disks_in, disks_refusal, edition_of, listed_in
 from second_checker import lost_places, plan_sheet, ruined, run, set_sheet, step_count, steps_of, wanted_refusal, wanted_symbols
 
@@ -70,7 +72,7 @@ def planning_refusal(sheet: bytes, wish: Wish, buffer_length: int) -> Optional[R
     return Refusal(34) if buffer_length < wish.buffer else None
 
 
-# Whether there is a plan
+# Whether there is a plan, and if not how much is gone
 
 
 def echelon_form(rows: Iterable[int], data_symbols: int) -> list[int]:
@@ -94,10 +96,14 @@ def wanted_rows(code: Code, wish: Wish) -> list[int]:
     return [code.rows[symbol] for symbol in wish.wanted(code)]
 
 
-def can_be_rebuilt(code: Code, wish: Wish) -> bool:
-    """Whether the wanted rows don't raise the rank of the surviving rows."""
+def how_much_is_gone(code: Code, wish: Wish) -> int:
+    """By how much the wanted rows raise the rank of the surviving rows."""
     form = echelon_form(surviving_rows(code, wish), code.data_symbols)
-    return len(echelon_form(form + wanted_rows(code, wish), code.data_symbols)) == len(form)
+    return len(echelon_form(form + wanted_rows(code, wish), code.data_symbols)) - len(form)
+
+
+def can_be_rebuilt(code: Code, wish: Wish) -> bool:
+    return how_much_is_gone(code, wish) == 0
 
 
 # What was given
@@ -135,14 +141,18 @@ def judge_plan(sheet: bytes, wish: Wish, plan: bytes, reads: int) -> Fault:
     return None
 
 
+def pattern_stripe(code: Code, size: int, pattern: int) -> bytes:
+    """The stripe of the data in which symbol t is 01 bytes where bit t is set, and zero elsewhere."""
+    return encoding(code, size, b"".join(bytes([pattern >> t & 1]) * size for t in range(code.data_symbols)))
+
+
 def judge_pattern(sheet: bytes, wish: Wish, pattern: int) -> Fault:
     """Whether a pattern is a good one: its stripe is zero on all survivors and not in all wanted symbols, at any symbol length."""
     code = read_code(sheet)
     if not 0 < pattern < 2**code.data_symbols:
         return f"pattern {pattern} is 0 or has a bit at K or above"
     for size in (1, 3, 8):
-        data = b"".join(bytes([pattern >> t & 1]) * size for t in range(code.data_symbols))
-        stripe = encoding(code, size, data)
+        stripe = pattern_stripe(code, size, pattern)
         symbols = [any(stripe[at : at + size]) for at in range(0, len(stripe), size)]
         lost = wish.lost(code)
         if any(symbol for number, symbol in enumerate(symbols) if number not in lost):
@@ -150,6 +160,24 @@ def judge_pattern(sheet: bytes, wish: Wish, pattern: int) -> Fault:
         if not any(symbols[number] for number in wish.wanted(code)):
             return f"the stripe of pattern {pattern} is zero in the wanted symbols"
     return None
+
+
+def image(code: Code, wish: Wish, pattern: int) -> int:
+    """What a pattern's stripe, for symbols of one bit, shows on the wanted symbols."""
+    stripe = pattern_stripe(code, 1, pattern)
+    return int.from_bytes(bytes(stripe[symbol] for symbol in wish.wanted(code)), "little")
+
+
+def judge_patterns(sheet: bytes, wish: Wish, patterns: Sequence[int]) -> Fault:
+    """Whether patterns say what is gone: as many as are gone, each a good one, and their images independent."""
+    code = read_code(sheet)
+    gone = how_much_is_gone(code, wish)
+    if len(patterns) != gone:
+        return f"{len(patterns)} patterns, and {gone} is gone"
+    fault = next(filter(None, (judge_pattern(sheet, wish, pattern) for pattern in patterns)), None)
+    if fault is None and rank([image(code, wish, pattern) for pattern in patterns]) < gone:
+        return "the images of the patterns on the wanted symbols are not independent"
+    return fault
 
 
 def random_bytes(length: int) -> bytes:
@@ -216,9 +244,9 @@ def judge_line(asked: Asked, line: str) -> Fault:
         return None if line == expected else f"not '{expected}'"
     if words[0] == "plan":
         return judge_plan_line(asked, words)
-    if words[0] == "pattern":
-        return judge_pattern_line(asked, words)
-    return "neither a plan nor a pattern"
+    if words[0] == "patterns":
+        return judge_patterns_line(asked, words)
+    return "neither a plan nor patterns"
 
 
 def judge_plan_line(asked: Asked, words: list[str]) -> Fault:
@@ -242,12 +270,13 @@ def judge_plan_line(asked: Asked, words: list[str]) -> Fault:
     return judge_plan(asked.sheet, wish, plan, reads)
 
 
-def judge_pattern_line(asked: Asked, words: list[str]) -> Fault:
+def judge_patterns_line(asked: Asked, words: list[str]) -> Fault:
     if can_be_rebuilt(read_code(asked.sheet), asked.wish):
-        return "a pattern, though all wanted symbols can be rebuilt"
-    if len(words) != 4 or words[2:] != ["same", "good"]:
-        return "not a good pattern and nothing written"
-    return judge_pattern(asked.sheet, asked.wish, int(words[1]))
+        return "patterns, though all wanted symbols can be rebuilt"
+    numbers = [int(word) for word in words[1:-2]]
+    if numbers[:1] != [len(numbers) - 1] or words[-2:] != ["same", "good"]:
+        return "not so many good patterns and nothing written"
+    return judge_patterns(asked.sheet, asked.wish, numbers[1:])
 
 
 def judge_lines(questions: list[Asked], lines: list[str]) -> list[str]:
@@ -304,6 +333,88 @@ def has_good_pattern(code: Code, wish: Wish) -> bool:
     """By trying every pattern."""
     sheet = sheet_of(code)
     return any(judge_pattern(sheet, wish, pattern) is None for pattern in range(2**code.data_symbols))
+
+
+def good_patterns(code: Code, wish: Wish) -> list[int]:
+    """By trying every pattern: each that shows what none before it does."""
+    sheet, found = sheet_of(code), []
+    for pattern in range(2**code.data_symbols):
+        images = [image(code, wish, known) for known in found + [pattern]]
+        if judge_pattern(sheet, wish, pattern) is None and rank(images) > len(found):
+            found.append(pattern)
+    return found
+
+
+def tell_by_trying(code: Code, wish: Wish, patterns: Sequence[int]) -> bool:
+    """The law word for word, for symbols of one bit: the stripes of the patterns are zero on every survivor, and every two valid stripes that
+    agree on the survivors differ on the wanted symbols by the XOR of the images of exactly one subset of the patterns."""
+    everything = range(2**code.data_symbols)
+    stripes = [int.from_bytes(pattern_stripe(code, 1, data), "little") for data in everything]
+    survivors = sum(255 << 8 * symbol for symbol in range(code.symbols) if symbol not in wish.lost(code))
+    wanted = sum(255 << 8 * symbol for symbol in wish.wanted(code))
+    if any(pattern not in everything or stripes[pattern] & survivors for pattern in patterns):
+        return False
+    subsets = chain.from_iterable(combinations(patterns, size) for size in range(len(patterns) + 1))
+    sums = Counter(reduce(xor, (stripes[pattern] for pattern in subset), 0) & wanted for subset in subsets)
+    differences = (one ^ other for one, other in combinations_with_replacement(stripes, 2))
+    return all(sums[difference & wanted] == 1 for difference in differences if not difference & survivors)
+
+
+def test_how_much_is_gone() -> None:
+    """Cases that can be told by hand; then small codes, by ranks and by trying all data."""
+    by_hand = [(P8, for_disk(0), 1), (P9, for_disk(0), 0), (P9, for_disk(1), 1), (P9, for_disks([0, 1]), 1), (P9, for_disks([0, 1], [0]), 0)]
+    by_hand += [(HALF, for_disk(0, listed), gone) for listed, gone in (([0], 1), ([1], 0), ([0, 1], 1), (None, 1))]
+    by_hand += [(LOST, for_disk(0, listed), gone) for listed, gone in (([0], 1), ([1], 1), ([0, 1], 2), (None, 2))]
+    by_hand += [(SQUARE, for_disks(disks), gone) for disks, gone in (([0, 2], 0), ([0, 1], 1), ([0, 1, 2], 2), ([0, 1, 2, 3], 4))]
+    by_hand += [(SQUARE, for_disks([0, 1], listed), 1) for listed in ([0], [3], [1, 2], [0, 1, 2])]
+    by_hand += [(liberation(3, 3), for_disks([0, 1, 2]), 3), (liberation(3, 3), for_disks(range(5)), 9), (evenodd(5), for_disks([0, 1, 2]), 4)]
+    for code, wish, gone in by_hand:
+        assert how_much_is_gone(code, wish) == gone, (code, wish)
+    found: Counter[int] = Counter()
+    for _ in range(150):
+        disks, height, data_symbols = RANDOM.randrange(2, 5), RANDOM.randrange(1, 3), RANDOM.randrange(1, 6)
+        code = Code(disks, height, data_symbols, tuple(RANDOM.randrange(2**data_symbols) for _ in range(disks * height)))
+        wish = for_disks(sorted(RANDOM.sample(range(disks), RANDOM.randrange(1, disks + 1))))
+        some = sorted(RANDOM.sample(wish.lost(code), RANDOM.randrange(1, len(wish.lost(code)) + 1)))
+        for asked in (wish, wish._replace(listed=some)):
+            patterns = good_patterns(code, asked)
+            assert len(patterns) == how_much_is_gone(code, asked) <= len(asked.wanted(code))
+            assert judge_patterns(sheet_of(code), asked, patterns) is None and tell_by_trying(code, asked, patterns)
+            assert judge_patterns(sheet_of(code), asked, patterns[1:]) is not None or not patterns
+            found[len(patterns)] += 1
+    assert all(found[gone] > 5 for gone in range(5))
+
+
+def test_wrong_patterns() -> None:
+    """Two lost data disks of single parity, symbols 0 to 3: data symbols 0 and 2 could be others, and 1 and 3. Each answer behind the right
+    ones has one thing wrong, and trying all data finds it too."""
+    code, row_0, row_1 = single_parity(3, 2), 0b0101, 0b1010
+    every, both, alone = for_disks([0, 1]), for_disks([0, 1], [0, 2]), for_disks([0, 1], [0])
+    right = [(every, [row_0, row_1]), (every, [row_0 ^ row_1, row_1]), (both, [row_0]), (both, [row_0 ^ row_1]), (alone, [row_0])]
+    right += [(for_disks([0]), []), (for_disks([0], [1]), [])]
+    wrong = [
+        ("one short", every, [row_0]),
+        ("none, though there is no plan", every, []),
+        ("one, though there is a plan", for_disks([0]), [row_0]),
+        ("one too many", every, [row_0, row_1, row_0 ^ row_1]),
+        ("a pattern twice", every, [row_0, row_0]),
+        ("independent on the lost symbols, not on the wanted ones", both, [row_0, row_0 ^ row_1]),
+        ("shows on a survivor", every, [row_0, row_1 ^ 0b10000]),
+        ("the first shows on a survivor", every, [row_0 ^ 0b10000, row_1]),
+        ("the first shows on no wanted symbol", both, [row_1]),
+        ("the first shows on no wanted symbol, and there is one too many", both, [row_1, row_0]),
+        ("empty", every, [0, row_1]),
+        ("a bit at K", every, [row_0, row_1 | 1 << code.data_symbols]),
+    ]
+    for wish, patterns in right:
+        assert judge_patterns(sheet_of(code), wish, patterns) is None and tell_by_trying(code, wish, patterns), patterns
+    for why, wish, patterns in wrong:
+        assert judge_patterns(sheet_of(code), wish, patterns) is not None, why
+        assert not tell_by_trying(code, wish, patterns), why
+    # of the right number each, so that it is the images that are looked at
+    same_images = Code(2, 2, 4, (1, 2, 4, 4))
+    assert judge_patterns(sheet_of(same_images), for_disk(0), [1, 2 | 8]) is None
+    assert judge_patterns(sheet_of(same_images), for_disk(0), [1, 1 | 8]) == "the images of the patterns on the wanted symbols are not independent"
 
 
 def test_echelon_form() -> None:
@@ -441,7 +552,7 @@ def test_lines() -> None:
     right = f"plan 21 3 accepted behind-same restored {P2.hex()}"
     assert judge_line(square, right) is None
     assert judge_line(square._replace(shown=False), right[: -len(P2.hex()) - 1]) is None
-    assert judge_line(unsolvable, "pattern 1 same good") is None
+    assert judge_line(unsolvable, "patterns 1 1 same good") is None
     assert judge_line(unsolvable._replace(buffer_length=3080), "refused 34 at 0 same") is None
     wrong = [
         (square, right.replace("21 3", "21 4")),
@@ -455,20 +566,28 @@ def test_lines() -> None:
         (square._replace(shown=False), "plan 48 3 accepted behind-same restored"),
         (square._replace(shown=False), "plan 21 1 accepted behind-same restored"),
         (square._replace(shown=False), "plan 21 5 accepted behind-same restored"),
-        (square, "pattern 1 same good"),
+        (square, "patterns 1 1 same good"),
         (square, "refused 34 at 0 same"),
         (square._replace(buffer_length=0), right),
         (square._replace(disk=4), "refused 34 at 0 same"),
         (square._replace(disk=4), "refused 7 at 0 changed"),
         (unsolvable, "plan 12 1 accepted behind-same restored"),
-        (unsolvable, "pattern 2 same good"),
-        (unsolvable, "pattern 1 changed good"),
-        (unsolvable, "pattern 1 same bad"),
+        (unsolvable, "patterns 1 2 same good"),
+        (unsolvable, "patterns 1 1 not-same good"),
+        (unsolvable, "patterns 1 1 same not-good"),
+        (unsolvable, "patterns 0 same good"),
+        (unsolvable, "patterns 1 same good"),
+        (unsolvable, "patterns 2 1 same good"),
+        (unsolvable, "patterns 1 1 1 same good"),
+        (unsolvable, "patterns 2 1 1 same good"),
+        (unsolvable, "pattern 1 same good"),
+        (square, "patterns 0 same good"),
+        (unsolvable, "patterns"),
         (unsolvable, ""),
     ]
     for asked, line in wrong:
         assert judge_line(asked, line) is not None, line
-    assert judge_lines([unsolvable], []) and not judge_lines([unsolvable], ["pattern 1 same good"])
+    assert judge_lines([unsolvable], []) and not judge_lines([unsolvable], ["patterns 1 1 same good"])
 
 
 def test_lines_with_lists() -> None:
@@ -479,8 +598,8 @@ def test_lines_with_lists() -> None:
     assert judge_line(row_1._replace(buffer_length=LIST_BUFFER - 1), "refused 34 at 0 same") is None
     assert judge_line(row_1._replace(listed=b"\1\0", buffer_length=0), "refused 23 at 1 same") is None
     assert judge_line(half, "plan 14 1 accepted behind-same restored") is None
-    assert judge_line(half._replace(listed=None), "pattern 1 same good") is None
-    assert judge_line(half._replace(listed=b"\0\1"), "pattern 1 same good") is None
+    assert judge_line(half._replace(listed=None), "patterns 1 1 same good") is None
+    assert judge_line(half._replace(listed=b"\0\1"), "patterns 1 1 same good") is None
     wrong = [
         (row_1._replace(listed=None), right),
         (row_1._replace(listed=b"\0"), right),
@@ -490,8 +609,8 @@ def test_lines_with_lists() -> None:
         (row_1._replace(listed=b""), right),
         (row_1._replace(listed=b"\1\0"), "refused 23 at 0 same"),
         (half._replace(listed=b"\0\1"), "plan 21 2 accepted behind-same restored"),
-        (half._replace(listed=b"\0\1"), "pattern 2 same good"),
-        (half, "pattern 1 same good"),
+        (half._replace(listed=b"\0\1"), "patterns 1 2 same good"),
+        (half, "patterns 1 1 same good"),
     ]
     for asked, line in wrong:
         assert judge_line(asked, line) is not None, line
@@ -514,7 +633,10 @@ def test_lines_of_sets() -> None:
     right = f"plan 36 4 accepted behind-same restored {TWO_DISKS.hex()}"
     assert judge_line(pair, right) is None
     assert judge_line(pair._replace(shown=False, listed=b"\0\4"), "plan 26 3 accepted behind-same restored") is None
-    assert judge_line(pair._replace(disks=b"\0\1"), "pattern 15 same good") is None
+    assert judge_line(pair._replace(disks=b"\0\1"), "patterns 1 15 same good") is None
+    every = pair._replace(disks=bytes(range(4)))
+    assert judge_line(every, "patterns 4 1 2 4 8 same good") is None and judge_line(every, "patterns 4 15 7 3 1 same good") is None
+    assert judge_line(every._replace(listed=b"\0\1\4"), "patterns 3 1 2 4 same good") is None
     assert judge_line(pair._replace(disks=b"\2\0", buffer_length=0), "refused 24 at 1 same") is None
     assert judge_line(pair._replace(buffer_length=SET_BUFFER - 1), "refused 34 at 0 same") is None
     wrong = [
@@ -528,8 +650,13 @@ def test_lines_of_sets() -> None:
         (pair._replace(shown=False), "plan 36 5 accepted behind-same restored"),
         (pair._replace(shown=False), "plan 63 4 accepted behind-same restored"),
         (pair._replace(shown=False), "plan 35 4 accepted behind-same restored"),
-        (pair, "pattern 15 same good"),
-        (pair._replace(disks=b"\0\1"), "pattern 7 same good"),
+        (pair, "patterns 1 15 same good"),
+        (pair._replace(disks=b"\0\1"), "patterns 1 7 same good"),
+        (every, "patterns 3 1 2 4 same good"),
+        (every, "patterns 4 1 2 4 4 same good"),
+        (every, "patterns 4 1 2 4 7 same good"),
+        (every, "patterns 5 1 2 4 8 15 same good"),
+        (every._replace(listed=b"\0\1\4"), "patterns 3 1 2 8 same good"),
     ]
     for asked, line in wrong:
         assert judge_line(asked, line) is not None, line
@@ -556,9 +683,11 @@ def judge_program() -> None:
         sys.exit(f"crates/planvectors/stdout may not stand: {len(faults)} faults")
     kinds = Counter(line.split(" ")[0] for line in lines)
     shown = sum(asked.shown and line.startswith("plan") for asked, line in zip(questions, lines))
-    counts = ", ".join(f"{kinds[kind]} {kind}" for kind in ("plan", "pattern", "refused"))
+    counts = ", ".join(f"{kinds[kind]} {kind}" for kind in ("plan", "patterns", "refused"))
+    gone = sorted({int(line.split(" ")[1]) for line in lines if line.startswith("patterns")})
     listed, sets = (sum(asked.wish.edition == edition for asked in questions) for edition in (2, 3))
-    print(f"planning, as printed by crates/planvectors: {counts}, {listed} with a list, {sets} for sets, {shown} plans with their bytes: ok")
+    print(f"planning, as printed by crates/planvectors: {counts}, {listed} with a list, {sets} for sets, {shown} plans with their bytes,")
+    print(f"where there is none {len(gone)} different numbers of patterns, {gone[0]} to {gone[-1]}: ok")
 
 
 if __name__ == "__main__":
@@ -571,6 +700,8 @@ if __name__ == "__main__":
     test_plans_of_sets()
     test_patterns()
     test_patterns_of_sets()
+    test_how_much_is_gone()
+    test_wrong_patterns()
     test_lines()
     test_lines_with_lists()
     test_lines_of_sets()
