@@ -12,7 +12,7 @@ import second
 from arrays import SPECIAL_CODES, below, chosen, random_bytes, random_code, shuffled
 from second import Code, Refusal, changed, read_code, sheet_of
 from second_checker import P2, ROW_1, TWO_DISKS, Disks, check, plan_sheet, set_sheet
-from second_planner import BUFFER, LIST_BUFFER, SET_BUFFER, Wish, can_be_rebuilt, for_disk, for_disks, judge_pattern, judge_plan
+from second_planner import BUFFER, LIST_BUFFER, SET_BUFFER, Wish, for_disk, for_disks, how_much_is_gone, judge_patterns, judge_plan
 from second_planner import planning_refusal
 from second_rebuild import rebuild
 
@@ -21,7 +21,8 @@ FIELDS = {
     "code": ("number", "place", "disks", "rows", "data_symbols", "symbols"),
     "sheet": ("number", "place", "length"),
     "checked": ("number", "place", "reads"),
-    "planned": ("number", "place", "length", "reads", "pattern"),
+    "planned": ("number", "place", "length", "reads", "pattern", "pattern_high", "patterns"),
+    "set": ("number", "place", "low", "high"),
     "part": ("slice", "start", "length"),
 }
 ANSWERS = {
@@ -36,6 +37,7 @@ ANSWERS = {
     "plan": "planned",
     "plan_wanted": "planned",
     "plan_disks": "planned",
+    "lost_pattern": "set",
     "rebuild": "verdict",
     "rebuild_disks": "verdict",
     "strip": "part",
@@ -108,17 +110,32 @@ def test_plan(sheet: bytes, wish: Wish, length: int) -> bytes:
     """Planning's answer is free, so it is held to what must be true of it. Answers the plan, or no bytes."""
     before = (random_bytes(97) * (length // 97 + 1))[:length]
     buffer = lent(before)
-    number, place, size, reads, pattern = ask_plan(sheet, wish, buffer)
+    number, place, size, reads, *first, gone = ask_plan(sheet, wish, buffer)
     plan = buffer.raw[:size]
     refusal = planning_refusal(sheet, wish, length)
     assert buffer.raw[size:] == before[size:]
     if refusal:
-        assert (number, place, size, reads, pattern) == (*refusal, 0, 0, 0)
-    elif can_be_rebuilt(read_code(sheet), wish):
-        assert (number, place, pattern) == (0, 0, 0) and judge_plan(sheet, wish, plan, reads) is None
+        assert (number, place, size, reads, *first, gone) == (*refusal, 0, 0, 0, 0, 0)
+    elif how_much_is_gone(read_code(sheet), wish) == 0:
+        assert (number, place, *first, gone) == (0, 0, 0, 0, 0) and judge_plan(sheet, wish, plan, reads) is None
     else:
-        assert (number, place, size, reads) == (0, 0, 0, 0) and judge_pattern(sheet, wish, pattern) is None
+        patterns = test_lost_patterns(sheet, bytes(wish.disks), bytes(wish.listed or b""))
+        assert (number, place, size, reads, gone) == (0, 0, 0, 0, len(patterns))
+        assert first == [patterns[0], 0] and judge_patterns(sheet, wish, patterns) is None
     return plan
+
+
+def test_lost_patterns(sheet: bytes, disks: bytes, listed: bytes) -> list[int]:
+    """Every pattern of these lists, one after the other; from their number on there is none. A refusal is planning's."""
+    wish = for_disks(disks, listed)
+    refusal = planning_refusal(sheet, wish, SET_BUFFER)
+    gone = 0 if refusal else how_much_is_gone(read_code(sheet), wish)
+    found = [ask("lost_pattern", sheet, disks, listed, index) for index in range(gone)]
+    assert all((number, place, high) == (0, 0, 0) and low != 0 for number, place, low, high in found)
+    for beyond in (gone, gone + 1, 63 + gone, 64, 65, 2**32, 2**63, 2**64 - 1):
+        if beyond >= gone:
+            assert ask("lost_pattern", sheet, disks, listed, beyond) == (*(refusal or (0, 0)), 0, 0)
+    return [low for _, _, low, _ in found]
 
 
 def test_check(sheet: bytes, disk: int, plan: bytes) -> None:
@@ -206,6 +223,7 @@ def test_sets(code: Code, sheet: bytes, size: int, stripe: bytes) -> None:
     listed = chosen((b"", any_list(code, disks)))
     plan = test_plan(sheet, for_disks(disks, listed), SET_BUFFER - chosen((0, 0, 0, 1, 96)) + chosen((0, 0, 9)))
     one = test_plan(sheet, for_disks(disks[:1]), SET_BUFFER)
+    test_lost_patterns(sheet, disks, listed)
     stated = [set_sheet(code, disks[:255], []), set_sheet(code, disks[:255], [], listed=listed[:255]), plan_sheet(code, (disks or b"\0")[0], [])]
     for tried in with_faults(plan) + with_faults(one) + stated:
         for asked in (disks, disks[:1]):
@@ -236,6 +254,21 @@ def test_two_losses() -> None:
             test_rebuild_disks(sheet, bytes(pair), plan, 3, stripe)
 
 
+def test_how_much_is_gone() -> None:
+    """From one pattern to 64, for one disk and for all of them; and what a worked case has."""
+    units = tuple(2**bit for bit in range(64))
+    for code in (Code(64, 1, 64, units), Code(2, 32, 64, units), Code(2, 32, 64, (0,) * 20 + units[:44]), Code(2, 32, 3, units[:3] * 20 + (0,) * 4)):
+        sheet, every = sheet_of(code), bytes(range(code.disks))
+        for disk in (0, code.disks - 1):
+            test_plan(sheet, for_disk(disk), BUFFER)
+            test_plan(sheet, for_disk(disk, bytes([disk * code.height])), LIST_BUFFER)
+        for disks, listed in [(every, b""), (every, bytes(range(0, 64, 2))), (every[1:], b""), (every[:1], b"")]:
+            test_plan(sheet, for_disks(disks, listed), SET_BUFFER)
+    assert ask("plan", sheet_of(Code(2, 1, 2, (1, 2))), 0, lent(bytes(BUFFER))) == (0, 0, 0, 0, 1, 0, 1)
+    assert test_lost_patterns(sheet_of(second.SQUARE), b"\0\1", b"") == [15]
+    assert len(test_lost_patterns(sheet_of(second.SQUARE), bytes(range(4)), b"")) == 4
+
+
 def main() -> None:
     for which in (second.SINGLE_PARITY, second.LIBERATION, second.ROW_DIAGONAL, second.EVENODD):
         for first in range(10):
@@ -248,6 +281,7 @@ def main() -> None:
         test_array(random_code(2 + below(4), 1 + below(4), 1 + below(8)))
     test_large_disks()
     test_two_losses()
+    test_how_much_is_gone()
     print(f"the C interface: {calls} calls answer as the second program")
 
 

@@ -7,7 +7,7 @@
 
 static const uint8_t sheet[22] = {4, 1, 2, 1, 1, 2, 1, 0, 0, 0, 0, 0, 0, 0, 1, 0, 0, 0, 0, 0, 0, 0};
 static const uint8_t plan[12] = {6, 1, 2, 1, 1, 0, 1, 1, 0, 1, 0, 1}; /* symbol 0 becomes symbol 1 */
-static const uint8_t disks[1] = {0}, wanted[1] = {0}, contents[1] = {7}, spare[1] = {9};
+static const uint8_t disks[1] = {0}, both[2] = {0, 1}, wanted[1] = {0}, contents[1] = {7}, spare[1] = {9};
 static uint8_t stripe[2], buffer[NAVORZIM_PLAN_DISKS_BYTES];
 static int wrong;
 
@@ -55,6 +55,13 @@ static void several_disks(void) {
     /* no list wants everything */
     expect("plan for disks, list", navorzim_plan_disks(sheet, 22, disks, 1, NULL, 0, buffer, sizeof buffer).number, 0);
     expect("plan for disks, buffer", navorzim_plan_disks(sheet, 22, disks, 1, wanted, 1, NULL, 0).number, 34);
+    expect("pattern, all", navorzim_lost_pattern(NULL, 0, NULL, 0, NULL, 0, 0).number, 1);
+    expect("pattern, sheet", navorzim_lost_pattern(NULL, 0, disks, 1, wanted, 1, 0).number, 1);
+    expect("pattern, disks", navorzim_lost_pattern(sheet, 22, NULL, 0, wanted, 1, 0).number, 24);
+    expect("pattern, list", navorzim_lost_pattern(sheet, 22, disks, 1, NULL, 0, 0).number, 0);
+    expect("pattern where there is a plan", navorzim_lost_pattern(sheet, 22, disks, 1, NULL, 0, 0).low, 0);
+    expect("pattern where there is none", navorzim_lost_pattern(sheet, 22, both, 2, NULL, 0, 0).low, 1);
+    expect("pattern after the last", navorzim_lost_pattern(sheet, 22, both, 2, NULL, 0, 1).low, 0);
     expect("rebuild disks, all", navorzim_rebuild_disks(NULL, 0, NULL, 0, NULL, 0, 1, NULL, 0).number, 1);
     expect("rebuild disks, sheet", navorzim_rebuild_disks(NULL, 0, disks, 1, plan, 12, 1, stripe, 2).number, 1);
     expect("rebuild disks, disks", navorzim_rebuild_disks(sheet, 22, NULL, 0, plan, 12, 1, stripe, 2).number, 24);
