@@ -1,4 +1,5 @@
 """A code, and all that is asked of it."""
+from itertools import count, takewhile
 from operator import index
 from typing import Any, Iterable, Union
 
@@ -147,7 +148,7 @@ class Code:
         >>> Code.row_diagonal(3).plan(0)
         Plan(disk 0, 4 steps, reads 4 symbols)
         """
-        return self._planned("plan", disk)
+        return self._planned("plan", (disk,), [disk])
 
     def plan_wanted(self, disk: int, wanted: Iterable[int]) -> Plan:
         """How these symbols of the disk, and no others, can be rebuilt: a rising list of their numbers, disk * rows + row. That may read
@@ -156,7 +157,8 @@ class Code:
         >>> Code.row_diagonal(3).plan_wanted(0, [1])
         Plan(disk 0, symbols 1, 2 steps, reads 2 symbols)
         """
-        return self._planned("plan_wanted", disk, numbers(wanted))
+        listed = numbers(wanted)
+        return self._planned("plan_wanted", (disk, listed), [disk], listed)
 
     def plan_disks(self, disks: Iterable[int], wanted: Iterable[int] = ()) -> Plan:
         """How these disks can be rebuilt from the others, or only the wanted symbols of them: rising lists both. Raises NoPlan where they
@@ -165,14 +167,41 @@ class Code:
         >>> Code.row_diagonal(3).plan_disks([0, 2]).disks
         (0, 2)
         """
-        return self._planned("plan_disks", numbers(disks), numbers(wanted))
+        lost, listed = numbers(disks), numbers(wanted)
+        return self._planned("plan_disks", (lost, listed), lost, listed)
 
-    def _planned(self, call: str, *asked: Any) -> Plan:
+    def _planned(self, call: str, asked: "tuple[Any, ...]", disks: Iterable[int], wanted: Iterable[int] = ()) -> Plan:
         buffer = bytearray(PLAN_BYTES)
         planned = accepted(ask(call, self.sheet, *asked, buffer))
-        if planned.pattern != 0:
-            raise NoPlan(planned.pattern)
+        if planned.patterns != 0:
+            raise NoPlan(*self.lost_patterns(disks, wanted))
         return Plan(bytes(buffer[: planned.length]), int(planned.reads))
+
+    # What is gone
+
+    def lost_patterns(self, disks: Iterable[int], wanted: Iterable[int] = ()) -> "tuple[int, ...]":
+        """How much is gone of these disks, or of the wanted symbols of them: the patterns that NoPlan has, and none where there is a plan.
+        Refused: 7, 24, 23.
+
+        >>> code = Code.single_parity(2, 2)
+        >>> len(code.lost_patterns([0, 1])), len(code.lost_patterns([0, 1], [0, 2])), len(code.lost_patterns([0]))
+        (2, 1, 0)
+        """
+        asked = self.sheet, numbers(disks), numbers(wanted)
+        answers = (accepted(ask("lost_pattern", *asked, number)) for number in count())
+        # after the last comes 0, which no pattern is
+        return tuple(takewhile(bool, (int(answer.high << 64 | answer.low) for answer in answers)))
+
+    def shows_on(self, pattern: int) -> "tuple[int, ...]":
+        """The symbols in which a pattern's stripe isn't 0. Bit t of a pattern is data symbol t.
+
+        >>> Code.single_parity(2, 2).shows_on(0b0001)
+        (0, 4)
+        >>> Code.single_parity(2, 2).shows_on(0b0101)
+        (0, 2)
+        """
+        stripe = self.encode(1, bytes(index(pattern) >> symbol & 1 for symbol in range(self.data_symbols)))
+        return tuple(symbol for symbol, byte in enumerate(stripe) if byte)
 
     # Checking and rebuilding
 

@@ -16,7 +16,8 @@ FIELDS = {
     "code": ("number", "place", "disks", "rows", "data_symbols", "symbols"),
     "sheet": ("number", "place", "length"),
     "checked": ("number", "place", "reads"),
-    "planned": ("number", "place", "length", "reads", "pattern"),
+    "planned": ("number", "place", "length", "reads", "pattern", "pattern_high", "patterns"),
+    "set": ("number", "place", "low", "high"),
     "part": ("slice", "start", "length"),
 }
 """The answers of navorzim.h, each a struct of 64-bit numbers."""
@@ -37,6 +38,7 @@ CALLS = {
     "plan": ("planned", (READ, NUMBER, WRITTEN)),
     "plan_wanted": ("planned", (READ, NUMBER, READ, WRITTEN)),
     "plan_disks": ("planned", (READ, READ, READ, WRITTEN)),
+    "lost_pattern": ("set", (READ, READ, READ, NUMBER)),
     "rebuild": ("verdict", (READ, NUMBER, READ, NUMBER, WRITTEN)),
     "rebuild_disks": ("verdict", (READ, READ, READ, NUMBER, WRITTEN)),
     "strip": ("part", (READ, NUMBER, NUMBER, READ)),

@@ -81,29 +81,34 @@ class Refused(ValueError):
 
 
 class NoPlan(Exception):
-    """No plan of any length can rebuild what was asked for, and `pattern` shows it: K bits, not all 0.
+    """No plan of any length can rebuild what was asked for, and `patterns` say how much is gone: at least one, and at most as many as there
+    are wanted symbols.
 
-    The stripe of the data in which the symbols of the set bits are 01 bytes and the others 0 is 0 on every surviving disk, and not 0 in
-    some wanted symbol: nobody can tell it from the stripe of zeros by what survives.
+    A pattern has K bits; bit t is data symbol t. Its stripe, that of the data in which the symbols of the set bits are 01 bytes and the others
+    0, is 0 on every surviving disk: nobody can tell it from the stripe of zeros by what survives. Look at one bit of each symbol, the same
+    one in all of them: with d patterns the survivors leave 2**d possibilities for these bits of the wanted symbols, and any two of those
+    differ by the XOR of the patterns' stripes for exactly one choice among the patterns. A wanted symbol that no pattern shows on
+    (`Code.shows_on`) is known all the same, and has a plan by itself.
 
     >>> from navorzim import Code
     >>> try:
     ...     Code.single_parity(2, 1).plan_disks([0, 1])
     ... except NoPlan as why:
-    ...     print(why, why.data_symbols)
-    no plan can be: data symbols 0 and 1 could be other ones (0, 1)
+    ...     print(why.patterns, why.data_symbols, why)
+    (3,) ((0, 1),) no plan can be: data symbols 0 and 1 could be other ones
     """
 
-    def __init__(self, pattern: int) -> None:
-        super().__init__(pattern)
-        self.pattern = pattern
+    def __init__(self, *patterns: int) -> None:
+        super().__init__(*patterns)
+        self.patterns = patterns
 
     @property
-    def data_symbols(self) -> "tuple[int, ...]":
-        """The data symbols whose bits are set."""
-        return tuple(symbol for symbol in range(self.pattern.bit_length()) if self.pattern >> symbol & 1)
+    def data_symbols(self) -> "tuple[tuple[int, ...], ...]":
+        """The data symbols of each pattern."""
+        return tuple(tuple(symbol for symbol in range(pattern.bit_length()) if pattern >> symbol & 1) for pattern in self.patterns)
 
     def __str__(self) -> str:
-        *others, last = map(str, self.data_symbols)
-        named = f"data symbols {', '.join(others)} and {last}" if others else f"data symbol {last}"
-        return f"no plan can be: {named} could be other ones" if others else f"no plan can be: {named} could be another one"
+        *others, last = map(str, self.data_symbols[0])
+        one = f"data symbols {', '.join(others)} and {last} could be other ones" if others else f"data symbol {last} could be another one"
+        count = len(self.patterns)
+        return f"no plan can be: {one}" + (f", which is one pattern of {count}" if count > 1 else "")

@@ -17,7 +17,7 @@ sys.path.insert(0, str(Path(__file__).resolve().parents[2] / "tests"))
 import second
 from arrays import SPECIAL_CODES, below, chosen, random_bytes, random_code, shuffled
 from second_checker import check, plan_sheet, set_sheet
-from second_planner import SET_BUFFER, Wish, can_be_rebuilt, for_disk, for_disks, judge_pattern, judge_plan, planning_refusal
+from second_planner import SET_BUFFER, Wish, for_disk, for_disks, how_much_is_gone, image, judge_patterns, judge_plan, planning_refusal
 from second_rebuild import rebuild
 
 import navorzim.code
@@ -132,16 +132,16 @@ class Calls(unittest.TestCase):
                     self.assertEqual(answer(lambda: mine.encode(size, b"")), second.Refusal(31))
 
     def plan(self, code: second.Code, wish: Wish, ask: Callable[[], Plan]) -> "Optional[Plan]":
-        """Which plan or pattern is given is free: it is held to what must be true of it."""
+        """Which plan or which patterns are given is free: they are held to what must be true of them."""
         sheet = second.sheet_of(code)
         refusal = planning_refusal(sheet, wish, SET_BUFFER)
         try:
             plan = ask()
         except NoPlan as why:
             self.assertIsNone(refusal)
-            self.assertFalse(can_be_rebuilt(code, wish))
-            self.assertIsNone(judge_pattern(sheet, wish, why.pattern))
-            self.assertEqual(sum(1 << symbol for symbol in why.data_symbols), why.pattern)
+            self.assertTrue(why.patterns)
+            self.assertIsNone(judge_patterns(sheet, wish, why.patterns))
+            self.assertEqual(tuple(sum(1 << symbol for symbol in symbols) for symbols in why.data_symbols), why.patterns)
             self.assertTrue(str(why).startswith("no plan can be: data symbol"))
             return None
         except Refused as refused:
@@ -154,6 +154,21 @@ class Calls(unittest.TestCase):
         self.assertEqual(b"".join(map(bytes, plan.steps)), plan.sheet[head:])
         self.assertEqual(len(plan.steps), int.from_bytes(plan.sheet[head - 2 : head], "little"))
         return plan
+
+    def hold_patterns(self, code: second.Code, mine: Code, disks: bytes, listed: bytes) -> None:
+        """Which patterns is free; that there are as many as are gone, none where there is a plan, is not."""
+        sheet, wish = second.sheet_of(code), for_disks(disks, listed)
+        patterns = answer(lambda: mine.lost_patterns(chosen((list, tuple, bytes))(disks), listed))
+        refusal = planning_refusal(sheet, wish, SET_BUFFER)
+        if refusal:
+            self.assertEqual(patterns, refusal)
+            return
+        self.assertIsNone(judge_patterns(sheet, wish, patterns))
+        wanted = wish.wanted(code)
+        for pattern in patterns:
+            shown = [wanted.index(symbol) for symbol in mine.shows_on(pattern) if symbol in wanted]
+            self.assertEqual(sum(1 << 8 * position for position in shown), image(code, wish, pattern))
+            self.assertLessEqual(set(mine.shows_on(pattern)), set(wish.lost(code)))
 
     def hold(self, code: second.Code, mine: Code, disks: Any, plan: bytes, size: int, stripe: bytes) -> None:
         """Check and rebuild, with a plan that may be anything."""
@@ -192,6 +207,7 @@ class Calls(unittest.TestCase):
                 lost = [symbol for symbol in range(code.symbols) if symbol // code.height in disks] or [0]
                 listed = chosen(([], sorted(shuffled(lost)[: 1 + below(len(lost))]), lost[::-1]))
                 plan = self.plan(code, for_disks(bytes(disks), bytes(listed)), lambda: mine.plan_disks(chosen((list, tuple, bytes))(disks), listed))
+                self.hold_patterns(code, mine, bytes(disks), bytes(listed))
                 stripe = random_bytes(code.symbols * size)
                 if plan:
                     self.hold(code, mine, disks, plan.sheet, size, stripe)

@@ -75,6 +75,12 @@ class Types(unittest.TestCase):
             lambda: code.plan_disks(0),
             lambda: code.plan_disks([0.0]),
             lambda: code.plan_disks([0], None),
+            lambda: code.lost_patterns(0),
+            lambda: code.lost_patterns(["0"]),
+            lambda: code.lost_patterns([0], 1),
+            lambda: code.shows_on("1"),
+            lambda: code.shows_on(1.0),
+            lambda: code.shows_on(None),
             lambda: code.check(0, "plan"),
             lambda: code.check("0", plan),
             lambda: code.check(None, plan),
@@ -186,7 +192,7 @@ class Types(unittest.TestCase):
 
     def test_values(self) -> None:
         code, plan = self.code, self.code.plan_disks([0, 2])
-        refused, why = Refused(22, 7), NoPlan(4)
+        refused, why, more = Refused(22, 7), NoPlan(4), NoPlan(5, 2**100, 2)
         for value in (code, plan):
             self.assertEqual(pickle.loads(pickle.dumps(value)), value)
             self.assertEqual(hash(pickle.loads(pickle.dumps(value))), hash(value))
@@ -194,8 +200,10 @@ class Types(unittest.TestCase):
         self.assertNotEqual(code, code.sheet)
         self.assertEqual((bytes(code), bytes(plan)), (code.sheet, plan.sheet))
         self.assertEqual(str(pickle.loads(pickle.dumps(refused))), str(refused))
-        self.assertEqual(pickle.loads(pickle.dumps(why)).pattern, 4)
+        self.assertEqual((pickle.loads(pickle.dumps(why)).patterns, pickle.loads(pickle.dumps(more)).patterns), ((4,), (5, 2**100, 2)))
         self.assertEqual(str(why), "no plan can be: data symbol 2 could be another one")
+        self.assertEqual(str(more), "no plan can be: data symbols 0 and 2 could be other ones, which is one pattern of 3")
+        self.assertEqual(more.data_symbols, ((0, 2), (100,), (1,)))
         self.assertRaises(AttributeError, setattr, code, "disks", 3)
         self.assertRaises(AttributeError, setattr, plan, "reads", 3)
         self.assertEqual(code.check([0, 2], Plan(plan.sheet, 0)), plan.reads)
