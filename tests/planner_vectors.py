@@ -448,6 +448,8 @@ def add_less_than_lost(questions: Questions) -> None:
         questions.add_code("gone, less than is lost", code, [0])
         questions.add_lists("gone, less than is lost", code, 0, [[0], [0, 1], [0, 2], [0, 1, 2, 3], [5, 6, 7]])
         questions.add_set("gone, less than is lost", sheet_of(code), [0, 1])
+    for disks, listed in [([0, 1], []), ([0, 1], [1, 3]), ([0, 1], [0, 1, 2]), ([0, 1, 2], [4, 5]), ([0, 1, 2, 3], [])]:
+        questions.add_set("gone, less than is lost", sheet_of(SQUARE), disks, listed)
 
 
 def add_all_gone(questions: Questions) -> None:

@@ -366,7 +366,7 @@ def test_how_much_is_gone() -> None:
     by_hand += [(HALF, for_disk(0, listed), gone) for listed, gone in (([0], 1), ([1], 0), ([0, 1], 1), (None, 1))]
     by_hand += [(LOST, for_disk(0, listed), gone) for listed, gone in (([0], 1), ([1], 1), ([0, 1], 2), (None, 2))]
     by_hand += [(SQUARE, for_disks(disks), gone) for disks, gone in (([0, 2], 0), ([0, 1], 1), ([0, 1, 2], 2), ([0, 1, 2, 3], 4))]
-    by_hand += [(SQUARE, for_disks([0, 1], listed), 1) for listed in ([0], [3], [1, 2], [0, 1, 2])]
+    by_hand += [(SQUARE, for_disks([0, 1], listed), 1) for listed in ([0], [3], [1, 3], [0, 1, 2])]
     by_hand += [(liberation(3, 3), for_disks([0, 1, 2]), 3), (liberation(3, 3), for_disks(range(5)), 9), (evenodd(5), for_disks([0, 1, 2]), 4)]
     for code, wish, gone in by_hand:
         assert how_much_is_gone(code, wish) == gone, (code, wish)
