@@ -344,8 +344,9 @@ fn planned(answer: ffi::Planned, sheet: &[u8], disks: &[u8], wanted: &[u8]) -> R
     if answer.length > 0 {
         return Ok(Planned::Plan { length: answer.length as usize, reads: answer.reads });
     }
-    let patterns = (0..answer.patterns).filter_map(|index| lost_pattern(sheet, disks, wanted, index).transpose());
-    Ok(Planned::NoPlan { patterns: patterns.collect::<Result<_, _>>()? })
+    let first = Pattern::of_words(answer.pattern, answer.pattern_high);
+    let others = (1..answer.patterns).filter_map(|index| lost_pattern(sheet, disks, wanted, index).transpose());
+    Ok(Planned::NoPlan { patterns: std::iter::once(Ok(first)).chain(others).collect::<Result<_, _>>()? })
 }
 
 /// Plans into a buffer of its own, which becomes the plan.

@@ -35,6 +35,11 @@ pub struct Pattern(
 );
 
 impl Pattern {
+    /// The bits of data symbols below 64, and of those from 64 on.
+    pub(crate) fn of_words(low: u64, high: u64) -> Pattern {
+        Pattern(u128::from(high) << 64 | u128::from(low))
+    }
+
     /// Whether it has a data symbol.
     pub fn has(self, data_symbol: usize) -> bool {
         data_symbol < 128 && self.0 >> data_symbol & 1 == 1
@@ -77,6 +82,6 @@ impl Pattern {
 /// ```
 pub fn lost_pattern(sheet: &[u8], disks: &[u8], wanted: &[u8], index: u64) -> Result<Option<Pattern>, Refusal> {
     let set = ffi::lost_pattern(sheet, disks, wanted, index);
-    let bits = u128::from(set.high) << 64 | u128::from(set.low);
-    unless_refused(set.number, set.place, (bits != 0).then_some(Pattern(bits)))
+    let pattern = Pattern::of_words(set.low, set.high);
+    unless_refused(set.number, set.place, Some(pattern).filter(|pattern| pattern.0 != 0))
 }
