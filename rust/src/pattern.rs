@@ -14,18 +14,18 @@ use crate::{encode, ffi, read_code, unless_refused, Refusal};
 /// ```
 /// use navorzim::{plan_disks, Family, Pattern, Planning};
 ///
-/// // Two data disks of two rows, d0, d1 and d2, d3, and the parities d0 ^ d2 and d1 ^ d3. Both data disks are lost.
-/// let sheet = Family::SingleParity { data_disks: 2, rows: 2 }.sheet()?;
-/// let Planning::NoPlan { patterns } = plan_disks(&sheet, &[0, 1], &[])? else { panic!("one parity is not enough") };
+/// // Two data disks of one symbol, d0 and d1, and a parity disk, d0 ^ d1. Both data disks are lost.
+/// let sheet = Family::SingleParity { data_disks: 2, rows: 1 }.sheet()?;
+/// let Planning::NoPlan { patterns } = plan_disks(&sheet, &[0, 1], &[])? else { panic!("two disks have a plan") };
 ///
-/// // Four symbols are lost, and two are gone: who finds d0 and d1 has all of them.
+/// // Two symbols are lost, but only one is gone: both could be others, but only together. Who finds one has the other.
+/// assert_eq!(patterns, [Pattern(0b11)]);
+/// assert_eq!(patterns[0].data_symbols().collect::<Vec<_>>(), [0, 1]);
+/// assert_eq!(patterns[0].shows_on(&sheet)?, [0, 1]);
+///
+/// // The parity disk is lost too: now each of them could be another.
+/// let Planning::NoPlan { patterns } = plan_disks(&sheet, &[0, 1, 2], &[])? else { panic!("nothing has a plan") };
 /// assert_eq!(patterns.len(), 2);
-///
-/// // Of row 0 alone, symbols 0 and 2, one is gone: both could be others, but only together.
-/// let Planning::NoPlan { patterns } = plan_disks(&sheet, &[0, 1], &[0, 2])? else { panic!("neither is enough for a row") };
-/// assert_eq!(patterns, [Pattern(0b101)]);
-/// assert_eq!(patterns[0].data_symbols().collect::<Vec<_>>(), [0, 2]);
-/// assert_eq!(patterns[0].shows_on(&sheet)?, [0, 2]);
 /// # Ok::<(), navorzim::Refusal>(())
 /// ```
 #[derive(Clone, Copy, Debug, PartialEq, Eq, PartialOrd, Ord, Hash)]
