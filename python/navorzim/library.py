@@ -51,7 +51,7 @@ CALLS = {
 
 # The library
 
-LOADED_AS = "libnavorzim.so.0.1"
+LOADED_AS = "libnavorzim.so.0.2"
 """The name by which the system's loader knows it: the soname that shared.sh gives it."""
 
 
