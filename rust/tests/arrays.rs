@@ -217,8 +217,9 @@ fn any_code_and_any_disks_are_restored_exactly_if_they_can_be() {
             refused += 1;
             for line in ["status array", "restore array", "restore array --dry-run"] {
                 let ran = case.folder.fails(line, 1);
-                assert!(ran.err.contains("be rebuilt by any plan (array/array)"), "{ran:?}");
-                assert!(ran.out.contains("The pattern is "), "{ran:?}");
+                assert!(ran.err.contains("be rebuilt by any plan: "), "{ran:?}");
+                assert!(ran.err.ends_with(" for each bit (array/array)\n"), "{ran:?}");
+                assert!(ran.out.contains(" is gone.\n"), "{ran:?}");
             }
         }
     }
@@ -470,11 +471,12 @@ fn what_is_there_is_reported_exactly() {
 
     case.lose(&[0, 3, 6]);
     let ran = case.folder.fails("status array", 1);
-    assert_eq!(ran.err, "navorzim: disks 0, 3 and 6 can't all be rebuilt by any plan (array/array)\n");
+    assert_eq!(ran.err, "navorzim: disks 0, 3 and 6 can't all be rebuilt by any plan: 15 of 15 symbols are beyond help, together 32 possibilities for each bit (array/array)\n");
     assert!(
-        ran.out.contains("Disks 0, 3 and 6 are lost, and no plan can bring all of them back.\nThe pattern is "),
+        ran.out.contains("Disks 0, 3 and 6 are lost, and no plan can bring all of them back.\n15 of 15 symbols are beyond help: disks 0, 3 and 6.\n"),
         "{ran:?}"
     );
+    assert!(ran.out.ends_with("\nIf one of disks 0, 3 and 6 came back, the others could be rebuilt.\n"), "{ran:?}");
 }
 
 impl Case {

@@ -45,7 +45,7 @@ fn pictures_go_through_pipes() {
     // Where there is no plan, the picture is of the pattern, and nothing else is in the pipe.
     folder.put("apart", &sheet(2, 1, 2, &[1, 2]));
     let (ran, out) = folder.run_with_input("show apart --disk 0 --svg -", b"");
-    assert_eq!((ran.status, &*ran.err), (1, "navorzim: disk 0 can't be rebuilt by any plan (apart)\n"));
+    assert_eq!((ran.status, &*ran.err), (1, "navorzim: disk 0 can't be rebuilt by any plan: 1 of 1 symbol is beyond help, 2 possibilities for each bit (apart)\n"));
     balanced(std::str::from_utf8(&out).expect("text"));
     let (ran, out) = folder.run_with_input("plan apart 0 -o -", b"");
     assert_eq!((ran.status, out.len()), (1, 0));

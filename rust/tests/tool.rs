@@ -202,7 +202,7 @@ fn a_disk_without_a_plan_has_a_pattern() {
     folder.put("apart", &sheet(2, 1, 2, &[1, 2]));
     let ran = folder.fails("plan apart 0 -o plan", 1);
     assert!(ran.out.contains("The pattern is 1, bits 01 (bit 0 last): d0 (disk 0 row 0)."), "{}", ran.out);
-    assert_eq!(ran.err, "navorzim: disk 0 can't be rebuilt by any plan (apart)\n");
+    assert_eq!(ran.err, "navorzim: disk 0 can't be rebuilt by any plan: 1 of 1 symbol is beyond help, 2 possibilities for each bit (apart)\n");
     let ran = folder.fails("show apart --disk 0", 1);
     assert!(ran.out.contains("│≠ 0 d0"), "{}", ran.out);
     assert!(ran.out.contains("│· 1 d1"), "{}", ran.out);
@@ -214,14 +214,16 @@ fn a_disk_without_a_plan_has_a_pattern() {
     assert!(ran.out.contains("The pattern is 3, bits 11"), "{}", ran.out);
     assert!(ran.out.contains("│○ 1 d0+d1 │"), "{}", ran.out);
 
-    // A symbol that is zero, and one row of two that the pattern reaches.
+    // A symbol that is zero, and two patterns.
     folder.put("sums", &sheet(2, 2, 3, &[2, 4, 3, 0]));
     let ran = folder.fails("show sums --disk 0", 1);
     assert!(ran.out.contains("zero"), "{}", ran.out);
-    let pattern = ran.out.split("The pattern is ").nth(1).expect("a pattern");
-    let pattern: u64 = pattern.split(',').next().unwrap().parse().expect("number");
     let code = model::read_code(&folder.get("sums")).expect("good");
-    assert!(model::good_pattern(&code, &[0], &[0, 1], pattern, 3), "{pattern}");
+    for letter in ["a", "b"] {
+        let pattern = ran.out.split(&format!("Pattern {letter} is ")).nth(1).expect("a pattern");
+        let pattern: u64 = pattern.split(',').next().unwrap().parse().expect("number");
+        assert!(model::good_pattern(&code, &[0], &[0, 1], pattern, 3), "{pattern}");
+    }
 }
 
 /// Three data disks of two rows and a parity disk whose row 1 leaves disk 1 out.
@@ -336,18 +338,20 @@ fn a_row_of_a_disk_beyond_help_has_a_plan() {
     let folder = Folder::new();
     folder.put("thin", &thin_sheet());
     let ran = folder.fails("plan thin 1 -o plan", 1);
-    assert_eq!(ran.err, "navorzim: disk 1 can't be rebuilt by any plan (thin)\n");
+    assert_eq!(ran.err, "navorzim: disk 1 can't be rebuilt by any plan: 1 of 2 symbols is beyond help, 2 possibilities for each bit (thin)\n");
     assert!(ran.out.ends_with("\nA plan can bring its row 0 back: --want 0.\n"), "{}", ran.out);
     let ran = folder.fails("plan thin 1 --want 1 -o plan", 1);
-    assert_eq!(ran.err, "navorzim: disk 1 row 1 can't be rebuilt by any plan (thin)\n");
+    assert_eq!(ran.err, "navorzim: disk 1 row 1 can't be rebuilt by any plan: 1 of 1 wanted symbol is beyond help, 2 possibilities for each bit (thin)\n");
     assert!(
-        ran.out.starts_with("Disk 1 is lost, and no plan can bring its row 1 back.\nThe pattern is 8,"),
+        ran.out.starts_with(
+            "Disk 1 is lost, and no plan can bring its row 1 back.\n1 of 1 wanted symbol is beyond help: "
+        ),
         "{}",
         ran.out
     );
     assert!(!ran.out.contains("--want"), "{}", ran.out);
     let ran = folder.fails("plan thin 1 --want 0,1 -o plan", 1);
-    assert_eq!(ran.err, "navorzim: disk 1 rows 0 1 can't all be rebuilt by any plan (thin)\n");
+    assert_eq!(ran.err, "navorzim: disk 1 rows 0 1 can't all be rebuilt by any plan: 1 of 2 wanted symbols is beyond help, 2 possibilities for each bit (thin)\n");
     assert!(ran.out.contains("no plan can bring all of its rows 0 1 back."), "{}", ran.out);
     assert!(ran.out.contains("not on disk 1 row 1.\nA plan can bring its row 0 back: --want 0."), "{}", ran.out);
     let said = folder.done("plan thin 1 --want 0 -o plan");
@@ -556,7 +560,7 @@ fn several_lost_disks_are_drawn() {
 fn disks_that_cannot_all_be_rebuilt_have_a_pattern() {
     let folder = Folder::square();
     let ran = folder.fails("plan code 0,1 -o out", 1);
-    assert_eq!(ran.err, "navorzim: disks 0 and 1 can't all be rebuilt by any plan (code)\n");
+    assert_eq!(ran.err, "navorzim: disks 0 and 1 can't all be rebuilt by any plan: 4 of 4 symbols are beyond help, together 2 possibilities for each bit (code)\n");
     assert!(ran.out.starts_with("Disks 0 and 1 are lost, and no plan can bring all of them back.\n"), "{}", ran.out);
     assert!(
         ran.out.contains("agree on all surviving disks, not on disk 0 rows 0 1 and disk 1 rows 0 1.\n"),
@@ -564,7 +568,7 @@ fn disks_that_cannot_all_be_rebuilt_have_a_pattern() {
         ran.out
     );
     let ran = folder.fails("show code --disk 0,1 --want s1", 1);
-    assert_eq!(ran.err, "navorzim: disk 0 row 1 can't be rebuilt by any plan (code)\n");
+    assert_eq!(ran.err, "navorzim: disk 0 row 1 can't be rebuilt by any plan: 1 of 1 wanted symbol is beyond help, 2 possibilities for each bit (code)\n");
     assert!(ran.out.contains("no plan can bring disk 0 row 1 back."), "{}", ran.out);
     // Where some of it can be brought back, the symbols are named so that --want takes them.
     folder.put("thin", &thin_sheet());
@@ -575,7 +579,8 @@ fn disks_that_cannot_all_be_rebuilt_have_a_pattern() {
     let ran = folder.fails("plan code 0-3 -o none", 1);
     assert!(ran.out.contains("Disks 0, 1, 2 and 3 are lost, and no plan can bring all of them back."), "{}", ran.out);
     assert!(
-        ran.out.contains("Stripes that differ by it differ, with no surviving disk to tell by, on disk "),
+        ran.out
+            .contains("Stripes that differ by one of them differ, with no surviving disk to tell by, on the symbols"),
         "{}",
         ran.out
     );
@@ -781,7 +786,7 @@ fn wanted_and_unwanted_symbols_are_drawn_apart() {
     let ran = folder.fails("show thin --disk 1 --want 1", 1);
     assert!(ran.out.contains("│- 2 d2"), "{}", ran.out);
     assert!(ran.out.contains("│≠ 3 d3"), "{}", ran.out);
-    assert!(ran.out.contains("  ≠ lost, differs: 1\n  - lost, not wanted: 1\n"), "{}", ran.out);
+    assert!(ran.out.contains("  ≠ lost, beyond help: 1\n  - lost, not wanted: 1\n"), "{}", ran.out);
 
     for (line, status) in [
         ("show code --disk 0 --plan one --svg out", 0),
@@ -846,7 +851,7 @@ fn pictures_are_well_formed() {
     for (line, status, piece) in [
         ("show code --svg out", 0, "data symbol as it is (4)"),
         ("show code --disk 0 --plan plan --svg out", 0, "survives, read (3)"),
-        ("show apart --disk 1 --svg out", 1, "lost, differs (1)"),
+        ("show apart --disk 1 --svg out", 1, "lost, beyond help (1)"),
         ("show wide --disk 63 --svg out", 0, "63 steps"),
     ] {
         assert_eq!(folder.run(line).status, status, "{line}");

@@ -12,10 +12,11 @@ use crate::inventory::{way_out, Found, Inventory};
 use crate::lists::rising;
 use crate::output::Output;
 use crate::place::Place;
-use crate::planning::{checked, checked_plan, no_plan, plan_anew};
+use crate::planning::checked_plan;
 use crate::progress::Progress;
 use crate::recovery::{reading, Recovery, Room};
 use crate::replacement::{handles, Model, Replacement};
+use crate::rescue::beyond_help;
 use crate::sheets::{counted, Code};
 use crate::stream::{End, Pieces, Stream};
 use crate::wanted::Wanted;
@@ -132,11 +133,10 @@ fn listing(array: &Array, inventory: &Inventory, described: bool) -> String {
 
 /// Whether lost disks can be rebuilt: how `status` ends where there are some.
 fn judged(array: &Array, inventory: &Inventory, lost: &Disks, mut text: String) -> Result<String, Failure> {
-    let plan = match plan_anew(&array.code, lost, &Wanted::All)? {
-        Ok(plan) => plan,
-        Err(stuck) => return Err(no_plan(text + &stuck.text(&array.code), &array.code, &stuck)),
+    let plan = match checked_plan(&array.code, lost, &Wanted::All)? {
+        Ok((plan, _)) => plan,
+        Err(stuck) => return Err(beyond_help(array, inventory, &stuck, text)),
     };
-    checked(&array.code, lost, &plan)?;
     let reading = reading(array, &plan.sources(&array.code, lost));
     text.push_str(&format!("{} can be rebuilt: reads {reading}\n", lost.words()));
     match (0..array.code.disks).find_map(|disk| Some((disk, inventory.fault(array, disk)?))) {
@@ -178,8 +178,9 @@ pub fn join(arguments: &mut Arguments) -> Result<String, Failure> {
         true => None,
         false => {
             let wanted = Wanted::Symbols(rising(wanted.iter().map(|&home| home as u64)));
-            let plan = checked_plan(&array.code, &lost, &wanted);
-            Some(plan.map_err(|failure| failure.after(inventory.fault_lines(&array)))?.0)
+            let plan = checked_plan(&array.code, &lost, &wanted)?;
+            let stuck = |stuck| beyond_help(&array, &inventory, &stuck, inventory.fault_lines(&array));
+            Some(plan.map_err(stuck)?.0)
         }
     };
     let recovery = Recovery::open(&array, &lost, plan.as_ref(), &there)?;

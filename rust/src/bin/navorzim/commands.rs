@@ -184,7 +184,8 @@ fn plan(arguments: &mut Arguments) -> Result<String, Failure> {
     let (request, output) = (arguments.wanted()?, arguments.output()?);
     arguments.finish()?;
     let code = Code::open(&code)?;
-    let (plan, reads) = checked_plan(&code, &disks, &Wanted::asked_for(request.as_ref(), &code, &disks))?;
+    let planned = checked_plan(&code, &disks, &Wanted::asked_for(request.as_ref(), &code, &disks))?;
+    let (plan, reads) = planned.map_err(|stuck| no_plan(stuck.text(&code), &code, &stuck))?;
     output::put(&output, &[&code.file], &plan.sheet)?;
     Ok(format!(
         "wrote {}: {} bytes, {}, reads {}{}\n",

@@ -8,7 +8,7 @@ use std::path::{Path, PathBuf};
 pub enum Failure {
     /// The library, or the length of a file of many stripes, said no.
     Refused(Refused),
-    /// The planner answered a pattern: `text` is the answer, for standard output, and `what` a sentence on what can't be rebuilt.
+    /// The planner answered patterns: `text` is the answer, for standard output, and `what` a sentence on what can't be rebuilt.
     NoPlan { text: String, what: String, code: PathBuf },
     /// Disks are missing and can be rebuilt: `text` is the answer, and nothing is to be complained of.
     Missing { text: String },
@@ -50,14 +50,6 @@ impl Failure {
     pub fn refused(refusal: Refusal, detail: String, file: &Path) -> Failure {
         let file = Some(file.to_path_buf());
         Failure::Refused(Refused { refusal, detail, file })
-    }
-
-    /// The same, where there is no plan with lines before the answer: what stands in the disks' places may be why.
-    pub fn after(self, lines: String) -> Failure {
-        match self {
-            Failure::NoPlan { text, what, code } => Failure::NoPlan { text: lines + &text, what, code },
-            failure => failure,
-        }
     }
 
     /// 1 for a refusal and for disks that can't be rebuilt, 2 for everything that never reached the library, 3 for disks that are

@@ -108,7 +108,7 @@ usage: navorzim status ARRAY [--read] [--without DISKS] [--links] [--wait SECOND
 
 Says of each disk of an array whether its file is there and has the right length and label, what
 else is in the folder, and whether the disks that aren't there can be rebuilt, and what that
-reads. Nothing is written, and of a disk's file only the label is read.
+reads, or how much is gone. Nothing is written, and of a disk's file only the label is read.
 
   --read          reads every byte of every disk, and says which disk can't be read, and where
   --without DISKS takes these disks as lost, though they are there
@@ -145,8 +145,10 @@ Where `array` is lost, the labels have it, if those that are there agree: it is 
   --links         takes links in the disks' places
   --wait SECONDS  waits so long for files that somebody else has locked
 
-Refused: the code sheet (1 to 6), 7 (no such disk), the plan (7 and 11 to 25). If no plan can
-bring the disks back, says so, prints the pattern that shows it, and ends with status 1.
+If no plan can bring the disks back, says how much is gone, as plan does, and which disks could be
+rebuilt all the same, or if another came back; writes nothing and ends with status 1.
+
+Refused: the code sheet (1 to 6), 7 (no such disk), the plan (7 and 11 to 25).
 
 example: navorzim restore array/
 example: navorzim restore array/ --dry-run
@@ -162,8 +164,8 @@ can be rebuilt from the others, that is done on the way; the array stays as it i
   --links         takes links in the disks' places
   --wait SECONDS  waits so long for files that somebody else has locked
 
-If no plan can bring the data back, says so, prints the pattern that shows it, writes no file
-and ends with status 1.
+If no plan can bring the data back, says how much is gone, as restore does, writes no file and
+ends with status 1.
 
 example: navorzim join array/ -o joined.txt
 ";
@@ -205,9 +207,13 @@ pub const PLAN: &str = "\
 usage: navorzim plan CODE DISKS [--want LIST] -o PLAN [--wait SECONDS]
 
 Reads the code sheet CODE; writes the plan sheet PLAN, by which the lost disks DISKS can be
-rebuilt: one, like 3, or several, like 0,3. If no plan can do that, says so, prints the pattern
-that shows it, writes no file and ends with status 1: data that differs by the pattern gives the
-same bytes on all surviving disks.
+rebuilt: one, like 3, or several, like 0,3.
+
+If no plan can do that, says how much is gone, writes no file and ends with status 1. \"3 of 4
+symbols are beyond help, together 4 possibilities for each bit\" means: what survives leaves 4
+possibilities for the same bit of these 3, so as much as 2 symbols is gone, and it fixes the
+fourth, which --want brings back. The patterns show it: data that differs by one of them gives
+the same bytes on all surviving disks.
 
   --want LIST  plans for these symbols of the disks only: it may read fewer symbols, and may be
                possible where whole disks are beyond help. LIST is rows, 0,2 or 0-2, of each of
@@ -285,8 +291,9 @@ usage: navorzim show CODE [--disk DISKS] [--plan PLAN | --want LIST] [--svg FILE
 Reads the code sheet CODE and draws it: disks as columns, rows as cells.
 
   --disk DISKS these disks are lost, one like 3 or several like 0,3: plans their rebuild and
-               draws what is read and the steps, or, with status 1, the pattern that shows why
-               no plan can be
+               draws what is read and the steps, or, with status 1, what is beyond help and
+               the patterns that show it; up to eight of them have letters, which stand in the
+               cells of the symbols that they show on
   --plan PLAN  draws this plan for the lost disks instead; it is checked first. One that ends
                wrong (21) is drawn with the symbol that does and the data symbol that is off,
                with status 1

@@ -1,7 +1,8 @@
 //! A model of what is drawn: disks as columns, rows as cells, and what happens to each symbol. Text and SVG draw the same model.
 use crate::disks::Disks;
 use crate::sheets::{counted, members, Code, Step};
-use crate::wanted::{places, rows, Wanted};
+use crate::stuck::Stuck;
+use crate::wanted::{of_them, places, rows, Wanted};
 
 /// What is told about the code.
 #[derive(Debug)]
@@ -14,17 +15,6 @@ pub enum Story {
     Wrong { disks: Disks, wanted: Wanted, steps: Vec<Step>, symbol: usize },
     /// no plan can be
     Stuck(Stuck),
-}
-
-/// Wanted symbols of lost disks that no plan brings back, all of them.
-#[derive(Debug)]
-pub struct Stuck {
-    pub disks: Disks,
-    pub wanted: Wanted,
-    /// the pattern: the data symbols that show it
-    pub bits: u64,
-    /// those of the wanted symbols that can be brought back
-    pub within_reach: Vec<u64>,
 }
 
 /// What happens to a symbol.
@@ -46,13 +36,13 @@ pub enum Mark {
     Read,
     /// survives and is not needed
     Idle,
-    /// lost and wanted, and not the same in both stripes of a pattern
-    Differs,
-    /// lost and wanted, and the same in both stripes of a pattern
-    Same,
-    /// survives, and the pattern's data symbols in it cancel out
+    /// lost and wanted, and a pattern shows on it
+    BeyondHelp,
+    /// lost and wanted, and no pattern shows on it
+    StillKnown,
+    /// survives, and what it holds of patterns cancels out
     Cancels,
-    /// survives, and holds none of the pattern's data symbols
+    /// survives, and holds no data symbol of a pattern
     Apart,
 }
 
@@ -68,10 +58,10 @@ impl Mark {
             Mark::Wrong => "lost, ends wrong",
             Mark::Read => "survives, read",
             Mark::Idle => "survives, not read",
-            Mark::Differs => "lost, differs",
-            Mark::Same => "lost, the same",
-            Mark::Cancels => "survives, the pattern cancels out",
-            Mark::Apart => "survives, holds none of the pattern",
+            Mark::BeyondHelp => "lost, beyond help",
+            Mark::StillKnown => "lost, still known",
+            Mark::Cancels => "survives, every pattern cancels out",
+            Mark::Apart => "survives, holds none of a pattern",
         }
     }
 }
@@ -83,6 +73,8 @@ pub struct Cell {
     pub mark: Mark,
     /// the data symbols that it is the sum of
     pub sum: u64,
+    /// the letters of the patterns that show on it
+    pub letters: String,
 }
 
 impl Cell {
@@ -105,6 +97,16 @@ impl Cell {
         match self.sum.count_ones() {
             0 | 1 => self.full(),
             size => format!("+{size}"),
+        }
+    }
+
+    /// What happens to the symbol, and which patterns show on it.
+    pub fn meaning(&self) -> String {
+        let letters: Vec<String> = self.letters.chars().map(String::from).collect();
+        match letters.len() {
+            0 => self.mark.meaning().to_string(),
+            1 => format!("{}, pattern {}", self.mark.meaning(), self.letters),
+            2.. => format!("{}, patterns {}", self.mark.meaning(), letters.join(" ")),
         }
     }
 
@@ -140,12 +142,18 @@ pub struct Picture {
     /// the wanted symbols that a plan brings back, and the surviving symbols that each is the sum of
     pub sums: Vec<(usize, u64)>,
     pub steps: Vec<Step>,
+    /// the patterns that have letters, in sentences
+    pub patterns: Vec<String>,
 }
 
 impl Picture {
     pub fn new(code: &Code, story: &Story) -> Picture {
-        let cells =
-            code.sums.iter().enumerate().map(|(symbol, &sum)| Cell { symbol, mark: mark(code, story, symbol), sum });
+        let letters = |symbol: usize| match story {
+            Story::Stuck(stuck) => stuck.letters(symbol),
+            Story::Code | Story::Plan { .. } | Story::Wrong { .. } => String::new(),
+        };
+        let cell = |(symbol, &sum)| Cell { symbol, mark: mark(code, story, symbol), sum, letters: letters(symbol) };
+        let cells = code.sums.iter().enumerate().map(cell);
         Picture {
             title: code.title(),
             notes: notes(code, story),
@@ -168,6 +176,10 @@ impl Picture {
                 Story::Plan { steps, .. } | Story::Wrong { steps, .. } => steps.clone(),
                 Story::Code | Story::Stuck(_) => Vec::new(),
             },
+            patterns: match story {
+                Story::Stuck(stuck) => stuck.lettered_patterns(code),
+                Story::Code | Story::Plan { .. } | Story::Wrong { .. } => Vec::new(),
+            },
         }
     }
 
@@ -175,7 +187,8 @@ impl Picture {
     pub fn described(&self) -> String {
         let grid = "A grid: disks are columns, rows are cells, each with a symbol's number and what it is.".to_string();
         let legend = self.legend().into_iter().map(|(mark, cells)| format!("{}: {cells}.", mark.meaning()));
-        let sentences: Vec<String> = self.notes.iter().cloned().chain([grid]).chain(legend).collect();
+        let said = self.notes.iter().cloned().chain([grid]).chain(legend).chain(self.patterns.iter().cloned());
+        let sentences: Vec<String> = said.collect();
         sentences.join(" ")
     }
 
@@ -192,7 +205,7 @@ impl Picture {
     /// The marks that occur, in the order in which a legend explains them, and how many cells have each.
     pub fn legend(&self) -> Vec<(Mark, usize)> {
         use Mark::*;
-        [Data, Sum, Lost, Wanted, Wrong, Differs, Same, Unwanted, Read, Cancels, Idle, Apart]
+        [Data, Sum, Lost, Wanted, Wrong, BeyondHelp, StillKnown, Unwanted, Read, Cancels, Idle, Apart]
             .into_iter()
             .map(|mark| (mark, self.cells.iter().filter(|cell| cell.mark == mark).count()))
             .filter(|&(_, cells)| cells > 0)
@@ -216,13 +229,13 @@ fn mark(code: &Code, story: &Story, symbol: usize) -> Mark {
             Mark::Read
         }
         Story::Plan { .. } | Story::Wrong { .. } => Mark::Idle,
-        Story::Stuck(stuck) => match (lost(&stuck.disks), sum & stuck.bits) {
-            (true, _) if !stuck.wanted.has(symbol) => Mark::Unwanted,
-            (true, common) if common.count_ones() % 2 == 1 => Mark::Differs,
-            (true, _) => Mark::Same,
-            (false, 0) => Mark::Apart,
-            (false, _) => Mark::Cancels,
+        Story::Stuck(stuck) if lost(&stuck.disks) => match (stuck.wanted.has(symbol), stuck.is_beyond_help(symbol)) {
+            (false, _) => Mark::Unwanted,
+            (true, true) => Mark::BeyondHelp,
+            (true, false) => Mark::StillKnown,
         },
+        Story::Stuck(stuck) if stuck.is_touched(sum) => Mark::Cancels,
+        Story::Stuck(_) => Mark::Apart,
     }
 }
 
@@ -282,15 +295,7 @@ fn notes(code: &Code, story: &Story) -> Vec<String> {
                 ),
             ]
         }
-        Story::Stuck(stuck) => stuck.notes(code),
-    }
-}
-
-/// Some symbols of lost disks that have just been named: `its row 2`, or `disk 1 row 2 and disk 3 rows 0 2`.
-fn of_them(code: &Code, disks: &Disks, symbols: &[u64]) -> String {
-    match disks.one() {
-        Some(_) => format!("its {}", rows(code, symbols)),
-        None => places(code, symbols),
+        Story::Stuck(stuck) => stuck.notes(code).into_iter().chain(stuck.offer(code)).collect(),
     }
 }
 
@@ -299,68 +304,4 @@ fn made_of(code: &Code, disks: &Disks, wanted: &Wanted, steps: &[Step], symbol: 
     let sums = brought_back(code, disks, wanted, steps);
     let sources = sums.iter().find(|(brought, _)| *brought == symbol).map_or(0, |&(_, sources)| sources);
     members(sources).fold(0, |sum, source| sum ^ code.sums.get(source).copied().unwrap_or(0))
-}
-
-impl Stuck {
-    /// The notes, a line each.
-    pub fn text(&self, code: &Code) -> String {
-        self.notes(code).iter().map(|note| format!("{note}\n")).collect()
-    }
-
-    /// Why no plan can be: what the pattern is, what it shows, and what is left to be done.
-    fn notes(&self, code: &Code) -> Vec<String> {
-        let Stuck { disks, bits, .. } = self;
-        let beyond = match &self.wanted {
-            Wanted::All if disks.count() == 1 => "it".to_string(),
-            Wanted::All => "all of them".to_string(),
-            Wanted::Symbols(symbols) if symbols.len() == 1 => of_them(code, disks, symbols),
-            Wanted::Symbols(symbols) => format!("all of {}", of_them(code, disks, symbols)),
-        };
-        let agree = match disks.count() < code.disks {
-            true => "agree on all surviving disks, not on",
-            false => "differ, with no surviving disk to tell by, on",
-        };
-        let mut notes = vec![
-            format!("{}, and no plan can bring {beyond} back.", disks.are_lost()),
-            format!(
-                "The pattern is {bits}, bits {:0width$b} (bit 0 last): {}.",
-                bits,
-                homes(code, *bits),
-                width = code.data
-            ),
-            format!("Stripes that differ by it {agree} {}.", places(code, &self.differing(code))),
-        ];
-        if !self.within_reach.is_empty() {
-            let back = of_them(code, disks, &self.within_reach);
-            notes.push(format!("A plan can bring {back} back: --want {}.", self.request(code)));
-        }
-        notes
-    }
-
-    /// What `--want` takes for the symbols within reach: rows of one disk, or symbols of several.
-    fn request(&self, code: &Code) -> String {
-        let item = |&symbol: &u64| match self.disks.one() {
-            Some(_) => code.row_of(symbol as usize).to_string(),
-            None => format!("s{symbol}"),
-        };
-        let items: Vec<String> = self.within_reach.iter().map(item).collect();
-        items.join(",")
-    }
-
-    /// The wanted symbols that differ in stripes that differ by the pattern.
-    fn differing(&self, code: &Code) -> Vec<u64> {
-        let odd = |&symbol: &u64| (code.sums[symbol as usize] & self.bits).count_ones() % 2 == 1;
-        self.wanted.symbols(code, &self.disks).into_iter().filter(odd).collect()
-    }
-}
-
-/// The data symbols of a set, each with where it stands.
-fn homes(code: &Code, set: u64) -> String {
-    let named: Vec<String> = members(set)
-        .map(|t| match code.home_of(t) {
-            Some(symbol) => format!("d{t} (disk {} row {})", code.disk_of(symbol), code.row_of(symbol)),
-            None => format!("d{t}"),
-        })
-        .collect();
-    named.join(", ")
 }

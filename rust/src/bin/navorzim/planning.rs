@@ -2,8 +2,8 @@
 use crate::disks::Disks;
 use crate::failure::Failure;
 use crate::lists::as_bytes;
-use crate::picture::Stuck;
 use crate::sheets::{Code, Plan};
+use crate::stuck::Stuck;
 use crate::wanted::{self, Wanted};
 use navorzim::{Planning, Refusal};
 
@@ -21,7 +21,10 @@ fn ask(code: &Code, disks: &Disks, wanted: &Wanted) -> Result<Planning, Refusal>
 pub fn plan_anew(code: &Code, disks: &Disks, wanted: &Wanted) -> Result<Result<Plan, Stuck>, Failure> {
     match ask(code, disks, wanted) {
         Ok(Planning::Plan { plan, .. }) => Ok(Ok(Plan { file: code.file.clone(), sheet: plan })),
-        Ok(Planning::NoPlan { patterns }) => Ok(Err(stuck(code, disks, wanted, patterns[0].0 as u64))),
+        Ok(Planning::NoPlan { patterns }) => match Stuck::new(code, disks, wanted, patterns) {
+            Ok(stuck) => Ok(Err(stuck)),
+            Err(refusal) => Err(code.explain(refusal, disks, None, 0)),
+        },
         Err(refusal) => Err(match (refusal, wanted) {
             (Refusal::BadWantedList { position }, Wanted::Symbols(symbols)) => {
                 Failure::refused(refusal, wanted::fault(code, disks, symbols, position), &code.file)
@@ -31,25 +34,25 @@ pub fn plan_anew(code: &Code, disks: &Disks, wanted: &Wanted) -> Result<Result<P
     }
 }
 
-/// A plan for the wanted symbols of lost disks, made anew and checked, with how many symbols it reads. Without one the command ends.
-pub fn checked_plan(code: &Code, disks: &Disks, wanted: &Wanted) -> Result<(Plan, u64), Failure> {
+/// A plan for the wanted symbols of lost disks, made anew and checked, with how many symbols it reads, or why there is none.
+pub fn checked_plan(code: &Code, disks: &Disks, wanted: &Wanted) -> Result<Result<(Plan, u64), Stuck>, Failure> {
     match plan_anew(code, disks, wanted)? {
-        Ok(plan) => checked(code, disks, &plan).map(|reads| (plan, reads)),
-        Err(stuck) => Err(no_plan(stuck.text(code), code, &stuck)),
+        Ok(plan) => {
+            let reads = checked(code, disks, &plan)?;
+            Ok(Ok((plan, reads)))
+        }
+        Err(stuck) => Ok(Err(stuck)),
     }
 }
 
-/// A pattern, with those of the wanted symbols that have a plan by themselves.
-fn stuck(code: &Code, disks: &Disks, wanted: &Wanted, bits: u64) -> Stuck {
-    let has_plan =
-        |&symbol: &u64| matches!(ask(code, disks, &Wanted::Symbols(vec![symbol])), Ok(Planning::Plan { .. }));
-    let within_reach = wanted.symbols(code, disks).into_iter().filter(has_plan).collect();
-    Stuck { disks: disks.clone(), wanted: wanted.clone(), bits, within_reach }
+/// Whether the wanted symbols of lost disks have a plan.
+pub fn has_plan(code: &Code, disks: &Disks, wanted: &Wanted) -> bool {
+    matches!(ask(code, disks, wanted), Ok(Planning::Plan { .. }))
 }
 
-/// How a command ends that met a pattern.
+/// How a command ends that met patterns.
 pub fn no_plan(text: String, code: &Code, stuck: &Stuck) -> Failure {
-    let what = stuck.wanted.cannot_be_rebuilt(code, &stuck.disks);
+    let what = format!("{}: {}", stuck.wanted.cannot_be_rebuilt(code, &stuck.disks), stuck.in_short());
     Failure::NoPlan { text, what, code: code.file.clone() }
 }
 

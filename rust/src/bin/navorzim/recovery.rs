@@ -4,7 +4,7 @@ use crate::disks::Disks;
 use crate::failure::Failure;
 use crate::gather::{Block, Blocks, Survivors};
 use crate::sheets::{counted, Code, Plan};
-use crate::wanted::places;
+use crate::wanted::disks_and_rows;
 
 /// An array that is read, with the lost symbols that a plan brings back.
 pub struct Recovery<'a> {
@@ -79,22 +79,12 @@ pub fn reading(array: &Array, symbols: &[usize]) -> String {
     )
 }
 
-/// Where symbols lie: the disks that are read whole, and the rows of the others.
+/// Where symbols lie, if there are any.
 fn from(code: &Code, symbols: &[usize]) -> String {
-    let (mut whole, mut parts) = (Vec::new(), Vec::new());
-    for strip in symbols.chunk_by(|one, next| code.disk_of(*one) == code.disk_of(*next)) {
-        match strip.len() == code.rows {
-            true => whole.push(code.disk_of(strip[0]) as u64),
-            false => parts.extend(strip.iter().map(|&symbol| symbol as u64)),
-        }
-    }
-    let whole = (!whole.is_empty()).then(|| Disks::of(whole).words());
-    let parts = (!parts.is_empty()).then(|| places(code, &parts));
-    let all: Vec<String> = whole.into_iter().chain(parts).collect();
-    if all.is_empty() {
-        String::new()
-    } else {
-        format!(", from {}", all.join(", "))
+    let symbols: Vec<u64> = symbols.iter().map(|&symbol| symbol as u64).collect();
+    match symbols.is_empty() {
+        true => String::new(),
+        false => format!(", from {}", disks_and_rows(code, &symbols)),
     }
 }
 

@@ -11,6 +11,7 @@ use crate::planning::{checked, checked_plan};
 use crate::progress::Progress;
 use crate::recovery::{bytes_read, reading, Recovery, Room};
 use crate::replacement::{handles, Model, Replacement};
+use crate::rescue::beyond_help;
 use crate::sheets::{counted, Code, Plan};
 use crate::wanted::{places, Wanted};
 use navorzim::Refusal;
@@ -38,8 +39,7 @@ pub fn run(arguments: &mut Arguments) -> Result<String, Failure> {
             let lost = inventory.lost();
             let plan = match given {
                 Some(given) => given_plan(&array.code, &lost, &targets, &given)?,
-                None => plan_for(&array.code, &lost, &targets)
-                    .map_err(|failure| failure.after(inventory.fault_lines(&array)))?,
+                None => plan_for(&array, &inventory, &lost, &targets)?,
             };
             match dry_run {
                 true => would_write(&array, &lost, &targets, &plan),
@@ -110,12 +110,15 @@ fn targets(array: &Array, inventory: &Inventory, asked: Option<Disks>) -> Result
 }
 
 /// A plan that is made anew. Its lost disks are all that can't be read, its wanted symbols those of the disks that are to be restored.
-fn plan_for(code: &Code, lost: &Disks, targets: &Disks) -> Result<Plan, Failure> {
+fn plan_for(array: &Array, inventory: &Inventory, lost: &Disks, targets: &Disks) -> Result<Plan, Failure> {
     let wanted = match targets == lost {
         true => Wanted::All,
-        false => Wanted::Symbols(Wanted::All.symbols(code, targets)),
+        false => Wanted::Symbols(Wanted::All.symbols(&array.code, targets)),
     };
-    checked_plan(code, lost, &wanted).map(|(plan, _)| plan)
+    match checked_plan(&array.code, lost, &wanted)? {
+        Ok((plan, _)) => Ok(plan),
+        Err(stuck) => Err(beyond_help(array, inventory, &stuck, inventory.fault_lines(array))),
+    }
 }
 
 /// A plan that is given, checked like any other. It may want less than whole disks, and then it is of no use.

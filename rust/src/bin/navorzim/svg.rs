@@ -24,8 +24,8 @@ fn colours(mark: Mark) -> [&'static str; 3] {
         Mark::Sum => ["#f1ebfc", "#8f70d0", "#472a80"],
         Mark::Lost | Mark::Wanted => ["#fdeaea", "#c43c38", "#8f1d1a"],
         Mark::Unwanted => ["#ffffff", "#b07f7d", "#744b49"],
-        Mark::Same => ["#fdeaea", "#c98482", "#853431"],
-        Mark::Differs | Mark::Wrong => ["#b3302c", "#7d1c19", "#ffffff"],
+        Mark::StillKnown => ["#fdeaea", "#c98482", "#853431"],
+        Mark::BeyondHelp | Mark::Wrong => ["#b3302c", "#7d1c19", "#ffffff"],
         Mark::Read => ["#e2f5e8", "#2e8a50", "#145a2d"],
         Mark::Cancels => ["#fff3d6", "#b98718", "#5f4200"],
         Mark::Idle | Mark::Apart => ["#f6f7f9", "#a3adb8", "#525d69"],
@@ -35,10 +35,10 @@ fn colours(mark: Mark) -> [&'static str; 3] {
 /// The line of a lost symbol is dashed, and dotted if the symbol is not wanted.
 fn dashes(mark: Mark) -> &'static str {
     match mark {
-        Mark::Lost | Mark::Wanted | Mark::Same => r#" stroke-dasharray="5 3""#,
+        Mark::Lost | Mark::Wanted | Mark::StillKnown => r#" stroke-dasharray="5 3""#,
         Mark::Unwanted => r#" stroke-dasharray="1.5 3""#,
         Mark::Data | Mark::Sum | Mark::Read | Mark::Idle => "",
-        Mark::Wrong | Mark::Differs | Mark::Cancels | Mark::Apart => "",
+        Mark::Wrong | Mark::BeyondHelp | Mark::Cancels | Mark::Apart => "",
     }
 }
 
@@ -53,6 +53,7 @@ pub fn draw(picture: &Picture) -> String {
         page.band(picture, band);
     }
     page.legend(picture);
+    page.patterns(picture);
     page.sums(picture);
     page.steps(picture);
     page.finish(picture)
@@ -177,13 +178,18 @@ impl Page {
         let [paper, line, ink] = colours(cell.mark);
         let dashes = dashes(cell.mark);
         let (y, full) = (self.y, cell.spelled(" + "));
-        let _ = writeln!(self.body, r#"<g><title>{} = {full} ({})</title>"#, cell.symbol, cell.mark.meaning());
+        let _ = writeln!(self.body, r#"<g><title>{} = {full} ({})</title>"#, cell.symbol, cell.meaning());
         let _ = writeln!(
             self.body,
             r#"<rect x="{x:.1}" y="{y:.1}" width="{CELL_WIDTH}" height="{CELL_HEIGHT}" rx="6" fill="{paper}" stroke="{line}" stroke-width="1.4"{dashes}/>"#
         );
         let number = Text { x: x + 6.0, y: y + 13.0, size: 10.0, ink, face: Face::Plain, anchor: "start" };
         self.text(number, &cell.symbol.to_string());
+        if !cell.letters.is_empty() {
+            let x = x + CELL_WIDTH - 6.0;
+            let letters = Text { x, y: y + 13.0, size: 10.0, ink, face: Face::Bold, anchor: "end" };
+            self.text(letters, &cell.letters);
+        }
         self.label(cell, x + CELL_WIDTH / 2.0, ink);
         self.body.push_str("</g>\n");
     }
@@ -229,8 +235,18 @@ impl Page {
         if !picture.cells.iter().all(|cell| fits(&cell.full())) {
             explained.push_str("; +5 is a sum of 5, its first members below");
         }
+        if !picture.patterns.is_empty() {
+            explained.push_str(". Top right: the patterns that show on it");
+        }
         self.paragraph("", &format!("{explained}."), 14.0, Face::Plain);
         self.y += 12.0;
+    }
+
+    /// Each pattern that has a letter.
+    fn patterns(&mut self, picture: &Picture) {
+        for pattern in &picture.patterns {
+            self.paragraph("", pattern, 14.0, Face::Plain);
+        }
     }
 
     /// Each symbol that comes back as the sum of those that are read for it.

@@ -34,6 +34,9 @@ pub fn draw(picture: &Picture, style: Style) -> String {
     }
     lines.push(String::new());
     lines.extend(legend(picture, &labelling, style));
+    for pattern in &picture.patterns {
+        lines.extend(wrapped(pattern, "", style.width));
+    }
     lines.extend(sums(picture, &labelling, style.width));
     lines.extend(steps(picture, style.width));
     lines.iter().map(|line| format!("{line}\n")).collect()
@@ -46,9 +49,9 @@ fn sign(mark: Mark) -> char {
         Mark::Unwanted => '-',
         Mark::Read => '●',
         Mark::Idle | Mark::Apart => '·',
-        Mark::Differs => '≠',
+        Mark::BeyondHelp => '≠',
         Mark::Wrong => '!',
-        Mark::Same => '=',
+        Mark::StillKnown => '=',
         Mark::Cancels => '○',
     }
 }
@@ -58,9 +61,9 @@ fn colour(mark: Mark) -> &'static str {
     match mark {
         Mark::Data => "36",
         Mark::Sum => "35",
-        Mark::Lost | Mark::Wanted | Mark::Same => "31",
+        Mark::Lost | Mark::Wanted | Mark::StillKnown => "31",
         Mark::Unwanted => "2;31",
-        Mark::Differs | Mark::Wrong => "1;31",
+        Mark::BeyondHelp | Mark::Wrong => "1;31",
         Mark::Read => "32",
         Mark::Cancels => "33",
         Mark::Idle | Mark::Apart => "2",
@@ -82,6 +85,8 @@ struct Labelling {
     width: usize,
     /// columns of the largest symbol number
     digits: usize,
+    /// columns of the patterns' letters
+    letters: usize,
 }
 
 /// Columns before the first cell: `row 31 `.
@@ -103,16 +108,18 @@ impl Labelling {
             label,
             width: widths.max().unwrap_or(0).max(2),
             digits: picture.cells.len().saturating_sub(1).to_string().len(),
+            letters: picture.cells.iter().map(|cell| cell.letters.len()).max().unwrap_or(0),
         }
     }
 
-    /// Columns between two lines of the grid: the sign, the number, the label, and a space after each.
+    /// Columns between two lines of the grid: the sign with the letters, the number, the label, and a space after each.
     fn cell_width(&self) -> usize {
-        (2 + self.digits + 1 + self.width + 1).max(HEAD)
+        (1 + self.letters + 1 + self.digits + 1 + self.width + 1).max(HEAD)
     }
 
     fn cell(&self, cell: &Cell, style: Style) -> String {
-        let text = format!("{} {:>digits$} {}", sign(cell.mark), cell.symbol, (self.label)(cell), digits = self.digits);
+        let sign = format!("{}{:<width$}", sign(cell.mark), cell.letters, width = self.letters);
+        let text = format!("{sign} {:>digits$} {}", cell.symbol, (self.label)(cell), digits = self.digits);
         let padded = format!("{text:<width$}", width = self.cell_width());
         painted(&padded, cell.mark, style)
     }
@@ -167,6 +174,9 @@ fn legend(picture: &Picture, labelling: &Labelling, style: Style) -> Vec<String>
     let mut cell = "A cell: the symbol's number and what it is; d3 is data symbol 3".to_string();
     if !labelling.shortened(picture).is_empty() {
         cell.push_str(", +5 a sum of 5");
+    }
+    if !picture.patterns.is_empty() {
+        cell.push_str(". Before the number: the patterns that show on it");
     }
     let mut lines = wrapped(&format!("{cell}."), "", style.width);
     if picture.lost.count() > 0 {

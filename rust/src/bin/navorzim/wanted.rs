@@ -105,6 +105,29 @@ pub fn places(code: &Code, symbols: &[u64]) -> String {
     listed(&disks)
 }
 
+/// Symbols as whole disks and rows of the others: `disks 1 and 2, disk 3 rows 0 2`.
+pub fn disks_and_rows(code: &Code, symbols: &[u64]) -> String {
+    let (mut whole, mut parts) = (Vec::new(), Vec::new());
+    for strip in symbols.chunk_by(|one, next| code.disk_of(*one as usize) == code.disk_of(*next as usize)) {
+        match strip.len() == code.rows {
+            true => whole.push(code.disk_of(strip[0] as usize) as u64),
+            false => parts.extend(strip),
+        }
+    }
+    let whole = (!whole.is_empty()).then(|| Disks::of(whole).words());
+    let parts = (!parts.is_empty()).then(|| places(code, &parts));
+    let all: Vec<String> = whole.into_iter().chain(parts).collect();
+    all.join(", ")
+}
+
+/// Some symbols of lost disks that have just been named: `its row 2`, or `disk 1 row 2 and disk 3 rows 0 2`.
+pub fn of_them(code: &Code, disks: &Disks, symbols: &[u64]) -> String {
+    match disks.one() {
+        Some(_) => format!("its {}", rows(code, symbols)),
+        None => places(code, symbols),
+    }
+}
+
 /// Symbols of one disk as its rows: `row 2` or `rows 0 2`.
 pub fn rows(code: &Code, symbols: &[u64]) -> String {
     let rows: Vec<String> = symbols.iter().map(|&symbol| code.row_of(symbol as usize).to_string()).collect();
