@@ -1,9 +1,11 @@
 //! What the tool does to files that it was not asked to change, that others write meanwhile, or that others may not see.
 mod folder;
 mod model;
+mod signals;
 
 use folder::{Folder, Ran, P1, TOOL};
 use model::random::Random;
+use signals::{heed_signals, send, CONTINUE, HANG_UP, INTERRUPT, STOP, TERMINATE};
 use std::fs::{self, File, Metadata, Permissions};
 use std::os::unix::fs::{chown, symlink, MetadataExt, PermissionsExt};
 use std::os::unix::process::{CommandExt, ExitStatusExt};
@@ -431,34 +433,6 @@ fn start(folder: &Folder, line: &str) -> Child {
     let mut tool = Command::new(TOOL);
     let tool = tool.args(line.split_whitespace()).current_dir(&folder.0).env("TMPDIR", &folder.0);
     tool.stdout(Stdio::null()).stderr(Stdio::null()).spawn().expect("it runs")
-}
-
-const HANG_UP: i32 = 1;
-const INTERRUPT: i32 = 2;
-const TERMINATE: i32 = 15;
-const CONTINUE: i32 = 18;
-const STOP: i32 = 19;
-
-/// Signals end the children that are started from here on, also where whoever started the tests has them ignored, as a shell does for what it
-/// runs in the background: a child takes that over.
-fn heed_signals() {
-    extern "C" {
-        fn signal(signal: i32, handler: usize) -> usize;
-    }
-    const DEFAULT: usize = 0;
-    for number in [HANG_UP, INTERRUPT, TERMINATE] {
-        // Sound: no handler of ours is set, the system's own is taken up again.
-        unsafe { signal(number, DEFAULT) };
-    }
-}
-
-/// Sends a signal at once: a program that did it would come too late for work of some milliseconds.
-fn send(signal: i32, child: &Child) {
-    extern "C" {
-        fn kill(process: i32, signal: i32) -> i32;
-    }
-    // Sound: two numbers are handed over, and the child was not waited for, so that its number is still its own.
-    unsafe { kill(child.id() as i32, signal) };
 }
 
 /// Some moment of a run that takes so long.

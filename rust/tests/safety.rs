@@ -1,16 +1,18 @@
 //! Nobody gains a right by the tool, and no stranger's disk joins an array: what an attacker or a careless keeper would try.
 mod folder;
 mod model;
+mod signals;
 
 use folder::{sheet, shim, Folder, TOOL};
 use model::random::Random;
+use signals::{heed_signals, send, FILE_TOO_LARGE, INTERRUPT, KILL, QUIT, TERMINATE};
 use std::collections::BTreeMap;
 use std::fs::{self, File, Permissions};
 use std::io::Write;
 use std::os::unix::fs::{chown, symlink, MetadataExt, PermissionsExt};
 use std::os::unix::process::ExitStatusExt;
 use std::path::PathBuf;
-use std::process::{Child, Command, Stdio};
+use std::process::{Command, Stdio};
 use std::sync::atomic::{AtomicBool, Ordering};
 use std::thread;
 use std::time::{Duration, Instant};
@@ -602,7 +604,7 @@ fn a_split_that_is_killed_leaves_nothing_under_its_name() {
             let mut tool = Command::new(TOOL);
             let tool = tool.args("split code --symbol 1 data -o array".split(' ')).current_dir(&folder.0);
             let ended = tool.env("LD_PRELOAD", shim()).env("AT_FLUSH", command).output().expect("it runs").status;
-            assert_eq!(ended.signal(), Some(9), "moment {moment}");
+            assert_eq!(ended.signal(), Some(KILL), "moment {moment}");
             let under_its_name = fs::read_dir(folder.0.join("array")).map(|entries| entries.count());
             assert_eq!(under_its_name.ok(), made.then_some(0), "moment {moment}");
             // What is left is one temporary folder, and goes with the next run.
@@ -755,6 +757,7 @@ fn who_has_locked_a_file_is_named_and_can_be_waited_for() {
 
 #[test]
 fn a_quota_and_a_quitting_user_leave_no_temporary_file() {
+    heed_signals();
     let folder = Folder::square();
     folder.put("data", &vec![7; 1 << 20]);
     let start = |limit: &str, source: &str| {
@@ -764,25 +767,16 @@ fn a_quota_and_a_quitting_user_leave_no_temporary_file() {
         shell.stdout(Stdio::null()).stderr(Stdio::null()).spawn().expect("it runs")
     };
     let ended = start("ulimit -f 100", "data").wait().expect("it ends");
-    assert_eq!((ended.signal(), folder.temporaries(), folder.has("out")), (Some(25), 0, false));
+    assert_eq!((ended.signal(), folder.temporaries(), folder.has("out")), (Some(FILE_TOO_LARGE), 0, false));
     let mut child = start("true", "-");
     let mut input = child.stdin.take().expect("a pipe");
     input.write_all(&folder.get("data")).expect("taken");
     while folder.temporaries() == 0 {
         thread::sleep(Duration::from_millis(5));
     }
-    send(3, &child);
+    send(QUIT, &child);
     let ended = child.wait().expect("it ends");
-    assert_eq!((ended.signal(), folder.temporaries(), folder.has("out")), (Some(3), 0, false));
-}
-
-/// Sends a signal at once.
-fn send(signal: i32, child: &Child) {
-    extern "C" {
-        fn kill(process: i32, signal: i32) -> i32;
-    }
-    // Sound: two numbers are handed over. The child isn't waited for yet, so that its number is its own.
-    unsafe { kill(child.id() as i32, signal) };
+    assert_eq!((ended.signal(), folder.temporaries(), folder.has("out")), (Some(QUIT), 0, false));
 }
 
 /// What a run that is ended leaves, for each of the commands that write: what was there, or what must be there.
@@ -878,7 +872,7 @@ fn remove_temporaries(folder: &Folder) {
 
 #[test]
 fn three_hundred_runs_that_are_ended_leave_no_half_file() {
-    const KILL: i32 = 9;
+    heed_signals();
     let (folder, mut random) = (workshop(), Random::new(300));
     for Ended { line, written, prepare, is_whole } in ENDED {
         let start = || {
@@ -895,7 +889,7 @@ fn three_hundred_runs_that_are_ended_leave_no_half_file() {
             runs += 1;
             assert!(runs <= 600, "{line}: {ended} of {runs} ended in time");
             prepare(&folder);
-            let (before, signal) = (all_but(&folder, written), [KILL, 15, 2][ended % 3]);
+            let (before, signal) = (all_but(&folder, written), [KILL, TERMINATE, INTERRUPT][ended % 3]);
             let mut child = start();
             thread::sleep(usual.mul_f64(random.below(1100) as f64 / 1000.0));
             send(signal, &child);
