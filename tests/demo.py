@@ -194,7 +194,14 @@ def test_ended_while_building(repository: Repository) -> None:
     assert child.returncode == 143 and repository.processes() == 0, child.returncode
 
 
+def heed_signals() -> None:
+    """What a shell runs in the background ignores an interrupt, and so does all that it starts: here each signal ends what it is sent to."""
+    for number in (signal.SIGHUP, signal.SIGINT, signal.SIGQUIT, signal.SIGTERM):
+        signal.signal(number, signal.SIG_DFL)
+
+
 def main() -> None:
+    heed_signals()
     tests = (test_elsewhere, test_refused, test_terminal, test_narrow, test_interrupted, test_ended, test_ended_while_building)
     for test in tests:
         with tempfile.TemporaryDirectory() as folder:
