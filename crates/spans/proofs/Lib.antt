@@ -1,3 +1,6 @@
 pub mod SpanLaws
 pub mod LostPatternLaws
 pub mod GoneLaws
+pub mod EquationLaws
+pub mod SurvivorLaws
+pub mod SoundnessLaws

@@ -1,2 +1,4 @@
 pub mod InnerSpans
 pub mod Gone
+pub mod Equations
+pub mod Soundness
