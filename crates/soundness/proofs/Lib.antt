@@ -1,0 +1,3 @@
+mod ByteLaws
+mod ColumnLaws
+pub mod CallLaws

@@ -1,0 +1,2 @@
+pub mod InnerColumns
+pub mod Survivors
