@@ -20,6 +20,8 @@ use plans::Checked;
 use refusals::Verdict;
 use views::Part;
 
+pub mod survivors; // survivors.rt: what the tester for survivors answers
+
 // Nothing refused, or the refusal: navorzim_verdict in C.
 #[repr(C)]
 pub struct OutVerdict {

@@ -1,2 +1,4 @@
+mod ComputedTests
 mod OnlyPatternLaws
+mod SurvivorCases
 pub mod CaseProofs

@@ -5,17 +5,17 @@ use mathlib.Core.Bool.{Bool, true, false, not, _&&_, _||_, true≢false}
 use mathlib.Core.List.{List, [], _∷_}
 use mathlib.Core.Logic.{_⊎_, ⊎-elim, inl, inr}
 use Prim.Native.Nat.{ℕ, _^_, _<_}
-use native.Mathlib.Decide.{decLt}
 use native.Mathlib.Nat.{zero-add}
 use native.Mathlib.Omega.{arith}
 use lib.Dec.{eqb, ltb}
-use lib.ListN.{length, getD, replicate, List·getD-eq-default}
-use borrow.Author.Tests.{ltb-true, eqb-true, eq-eqb}
+use lib.ListN.{length, getD, replicate}
+use borrow.Author.Tests.{eqb-true, eq-eqb}
 use Rattle.bits.specs.BitSets.{overlap}
 use Rattle.bits.specs.Lists.{firstFrom}
 use Rattle.bits.proofs.Booleans.{bool-cases}
 use Rattle.bits.proofs.OverlapLaws.{overlap-zero-left, even-if-not-odd}
 use Rattle.bits.proofs.SearchLaws.{firstFrom-none, none-if-firstFrom-behind}
+use Rattle.cases.proofs.ComputedTests.{firstFailing, bytes-if-tested}
 use Rattle.codes.specs.Codes.{LinearCode, symbols, matrix, WithinLimits}
 use Rattle.code_sheets.specs.CodeReading.{reading}
 use Rattle.code_sheets.proofs.ReadingLaws.{code-within-limits}
@@ -162,20 +162,9 @@ module _ (code : LinearCode) (within : WithinLimits code) (asked : Asked) where
 -- By code sheet
 
 -- A sheet whose every byte is one, and which is read without a refusal, has a code within the limits
-pub within-if-read : (codeSheet : List ℕ) → firstFrom (λ i. not (ltb (getD codeSheet i 0) 256)) 0 (length codeSheet) ≡ length codeSheet
-    → reading codeSheet .verdict ≡ Fine → WithinLimits (reading codeSheet .code)
-within-if-read codeSheet all-bytes fine = code-within-limits codeSheet (λ i. by-side i (decLt i (length codeSheet))) fine
-  where
-    by-side : (i : ℕ) → Dec (i < length codeSheet) → getD codeSheet i 0 < 256
-    by-side i (yes h) =
-        ltb-true (getD codeSheet i 0) 256
-        (true-if-not-false (ltb (getD codeSheet i 0) 256)
-        (none-if-firstFrom-behind (λ j. not (ltb (getD codeSheet j 0) 256)) (length codeSheet) 0 i (omega (arith, all-bytes)) (omega arith) (omega arith)))
-      where
-        true-if-not-false : (c : Bool) → not c ≡ false → c ≡ true
-        true-if-not-false true q = refl
-        true-if-not-false false q = absurd (true≢false q)
-    by-side i (no h) = subst (λ (b : ℕ). b < 256) (sym (List·getD-eq-default codeSheet 0 (omega arith))) (omega arith)
+pub within-if-read : (codeSheet : List ℕ) → firstFailing (λ byte. ltb byte 256) codeSheet ≡ length codeSheet → reading codeSheet .verdict ≡ Fine
+    → WithinLimits (reading codeSheet .code)
+within-if-read codeSheet all-bytes fine = code-within-limits codeSheet (bytes-if-tested codeSheet all-bytes) fine
 
 -- So planning for a code sheet, where it refuses nothing, answers this pattern alone
 pub planned-as-only : (codeSheet : List ℕ) (within : WithinLimits (reading codeSheet .code)) (asked : Asked)

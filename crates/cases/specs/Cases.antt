@@ -16,6 +16,7 @@ use Rattle.planning.specs.Planning.{Found, APatterns}
 use Rattle.rebuild.specs.Rebuild.{stripeAfter}
 use Rattle.refusals.specs.Refusals.{_at_}
 use Rattle.refusals.specs.Orders.{Answer, Gives, Refuses}
+use Rattle.soundness.specs.Survivors.{YesOrNo, Yes, No, TestPromised}
 use Rattle.code_sheets.specs.CodeSheets.{rowBytes}
 use Rattle.code_sheets.specs.CodeReading.{reading}
 
@@ -107,6 +108,8 @@ pub data Case : Type 0 where
   plans : List ℕ → Asked → Answer Found → Case
   -- Planning for a code sheet can only answer a plan
   plans-some : List ℕ → Asked → Case
+  -- The tester for survivors, of a stripe of symbols of so many bytes without a set of disks, can only answer so
+  tests : List ℕ → List ℕ → ℕ → List ℕ → Answer YesOrNo → Case
 
 -- The entries of a list from an index on, as many as there are on the right
 abbrev pub From : List ℕ → ℕ → List ℕ → Type 0
@@ -125,6 +128,7 @@ Right (plans codeSheet asked answer) =
     (before after : List ℕ) (given : Answer Found) → leastBuffer (asked .edition) ≤ length before → Promised codeSheet asked before after given → given ≡ answer
 Right (plans-some codeSheet asked) =
     (before after : List ℕ) (given : Answer Found) → leastBuffer (asked .edition) ≤ length before → Promised codeSheet asked before after given → IsPlan given
+Right (tests codeSheet disks L stripe answer) = (given : Answer YesOrNo) → TestPromised codeSheet disks L stripe given → given ≡ answer
 
 abbrev pub AllRight : List Case → Type 0
 AllRight [] = Unit {0}
@@ -286,5 +290,15 @@ goneCases =
     ∷ plans square (listedOnSet (0 ∷ 1 ∷ []) []) (Gives (APatterns (15 ∷ [])))
     ∷ []
 
+-- Document 02, §8: the survivors of the square code without disk 0
+abbrev pub survivorCases : List Case
+survivorCases =
+    -- those of P1's stripe can be sound, whatever stands in the lost strip
+    tests square (alone 0) 1 (0x11 ∷ 0x22 ∷ 0x44 ∷ 0x88 ∷ 0x55 ∷ 0xAA ∷ 0x99 ∷ 0x66 ∷ []) (Gives Yes)
+    ∷ tests square (alone 0) 1 (0xFF ∷ 0xFF ∷ 0x44 ∷ 0x88 ∷ 0x55 ∷ 0xAA ∷ 0x99 ∷ 0x66 ∷ []) (Gives Yes)
+    -- with byte 4 changed they can't, and the column is 0
+    ∷ tests square (alone 0) 1 (0x11 ∷ 0x22 ∷ 0x44 ∷ 0x88 ∷ 0x54 ∷ 0xAA ∷ 0x99 ∷ 0x66 ∷ []) (Gives (No 0))
+    ∷ []
+
 unfoldable pub table : List Case
-table = rulesCases ++ wantedCases ++ ontoItselfCases ++ setCases ++ goneCases
+table = rulesCases ++ wantedCases ++ ontoItselfCases ++ setCases ++ goneCases ++ survivorCases

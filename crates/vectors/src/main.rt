@@ -13,6 +13,9 @@
 //   call 7, rebuild: number of asked disks, L, stripe length, stripe seed, data length (0: no data is encoded first), data seed,
 //     start and end of the strip that is ruined, its seed (below 256: that byte throughout), code sheet length; the asked disks,
 //     the code sheet, the plan sheet
+//   call 8, test survivors: number of asked disks, L, stripe length, stripe seed, data length (0: no data is encoded first), data seed,
+//     start and end of a part that is ruined, its seed (below 256: that byte throughout), the same of a second part, code sheet length;
+//     the asked disks, the code sheet
 ghost use mathlib.Core.Path.{_≡_};
 ghost use Prim.Native.Nat.{_≤_, _<_};
 ghost use lib.ListN.{length};
@@ -40,6 +43,7 @@ use records::rest_at;
 use refusals::Verdict;
 use sheets::byte_at;
 use sheets::two_bytes_at;
+use soundness::Tested;
 
 // The most bytes that a record has.
 const RECORD: usize = 8192;
@@ -253,13 +257,8 @@ fn encode_first(sheet: &[u8], size: usize, contents: &[u8], stripe: &mut [u8]) {
     encoding::encode(sheet, size, contents, stripe);
 }
 
-fn rebuild(record: &[u8], stripe: &mut [u8], contents: &mut [u8]) {
-    let size = number_at(record, 9);
-    let rest = rest_at(record, 81);
-    let disks = front_of(rest, number_at(record, 1));
-    let sheets = rest_at(rest, disks.len());
-    let sheet = front_of(sheets, number_at(record, 73));
-    let plan = rest_at(sheets, sheet.len());
+// The stripe of a rebuild or a test: filled, or encoded from data, and then a part of it ruined.
+fn make_stripe(record: &[u8], sheet: &[u8], size: usize, contents: &mut [u8], stripe: &mut [u8]) {
     fill(stripe, number_at(record, 25));
     fill(contents, number_at(record, 41));
     encode_first(sheet, size, contents, stripe);
@@ -269,8 +268,49 @@ fn rebuild(record: &[u8], stripe: &mut [u8], contents: &mut [u8]) {
         number_at(record, 57),
         number_at(record, 65),
     );
+}
+
+fn rebuild(record: &[u8], stripe: &mut [u8], contents: &mut [u8]) {
+    let size = number_at(record, 9);
+    let rest = rest_at(record, 81);
+    let disks = front_of(rest, number_at(record, 1));
+    let sheets = rest_at(rest, disks.len());
+    let sheet = front_of(sheets, number_at(record, 73));
+    let plan = rest_at(sheets, sheet.len());
+    make_stripe(record, sheet, size, contents, stripe);
     print_verdict(rebuild::rebuild(sheet, disks, plan, size, stripe));
     print_digest(stripe);
+}
+
+fn print_tested(tested: Tested) {
+    match tested {
+        Tested::Sound => {
+            print(b"sound");
+        }
+        Tested::Unsound { column } => {
+            print(b"unsound");
+            print_number(column as u64);
+        }
+        Tested::Refused(refusal) => {
+            print_refusal(refusal);
+        }
+    }
+    end_line();
+}
+
+fn test_survivors(record: &[u8], stripe: &mut [u8], contents: &mut [u8]) {
+    let size = number_at(record, 9);
+    let rest = rest_at(record, 105);
+    let disks = front_of(rest, number_at(record, 1));
+    let sheet = front_of(rest_at(rest, disks.len()), number_at(record, 97));
+    make_stripe(record, sheet, size, contents, stripe);
+    ruin(
+        stripe,
+        number_at(record, 73),
+        number_at(record, 81),
+        number_at(record, 89),
+    );
+    print_tested(soundness::test_survivors(sheet, disks, size, stripe));
 }
 
 // Makes a call on the two long inputs that it is lent, or on the first alone.
@@ -279,8 +319,10 @@ fn call_on(record: &[u8], call: usize, first: &mut [u8], second: &mut [u8]) {
         1 => write_family(record, first),
         2 => encode(record, first, second),
         3 => show_strip(record, first),
+        4 => look_up(record, first, second),
         7 => rebuild(record, first, second),
-        _ => look_up(record, first, second),
+        8 => test_survivors(record, first, second),
+        _ => {}
     }
 }
 
@@ -316,10 +358,10 @@ fn answer(record: &[u8]) {
         1 => call_with(record, call, number_at(record, 25), 0),
         2 => call_with(record, call, number_at(record, 9), number_at(record, 25)),
         3 => call_with(record, call, number_at(record, 17), 0),
-        4 => call_with(record, call, number_at(record, 17), number_at(record, 33)),
         5 => check(record),
         6 => desk(record),
-        _ => call_with(record, call, number_at(record, 17), number_at(record, 33)),
+        4 | 7 | 8 => call_with(record, call, number_at(record, 17), number_at(record, 33)),
+        _ => {}
     }
 }
 
