@@ -23,6 +23,7 @@ from planner_vectors import Questions, add_gone_questions, add_list_questions, a
 from rebuild_vectors import add_rebuild_vectors
 from records import ROOM, Vectors
 from second import Code, changed
+from soundness_vectors import add_soundness_vectors
 
 CRATES = Path(__file__).resolve().parent.parent / "crates"
 HUGE = (2**31, 2**32, 2**32 + 1, 2**63, 2**63 + 1, 2**64 - 1)
@@ -345,6 +346,7 @@ def all_vectors() -> tuple[Vectors, Questions]:
     add_edition_3_vectors(vectors)
     add_set_questions(questions)
     add_gone_questions(questions)
+    add_soundness_vectors(vectors)
     return vectors, questions
 
 

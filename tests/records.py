@@ -4,14 +4,16 @@ crates/vectors/src/main.rt describes the records. What a call answers comes from
 """
 from collections import Counter
 from functools import lru_cache
-from typing import Optional, Union
+from typing import Optional, Sequence, Union
 
 import second
 import second_checker
 import second_desk
 import second_rebuild
+import second_soundness
 from second import Code, Refusal
 from second_checker import Disks, disks_refusal, listed_in, lost_places, wanted_symbols, with_symbols
+from second_soundness import Tested, Unsound
 
 ROOM = 262144
 """The most bytes that a long input of a record has."""
@@ -138,6 +140,33 @@ class Vectors:
         numbers = [len(disks), size, stripe_length, seed, data_length, seed + 1, start, end, seed + 2 if ruin is None else ruin, len(sheet)]
         self.add(kind, 7, numbers, bytes(disks) + sheet + plan, f"{line} digest {digest(after)}")
 
+    def test_survivors(
+        self,
+        kind: str,
+        sheet: bytes,
+        disks: Disks,
+        size: int,
+        *,
+        valid: bool = False,
+        length: Optional[int] = None,
+        damage: Sequence[tuple[int, int]] = (),
+    ) -> None:
+        """On a stripe of the length that the sheet asks for, or another one. A valid stripe is encoded from data first. Then up to two of
+        its bytes are damaged, each a place and what is added to the byte there by XOR."""
+        seed = self.seed()
+        code = second.read_code(sheet)
+        stripe_length = code.symbols * size if length is None else length
+        data_length = code.data_symbols * size if valid else 0
+        stripe = bytearray(second.encoding(code, size, filled(data_length, seed + 1)) if valid else filled(stripe_length, seed))
+        parts = []
+        for at, by in damage:
+            stripe[at] ^= by
+            parts += [at, at + 1, stripe[at]]
+        parts += [0] * (6 - len(parts))
+        answer = second_soundness.test_survivors(sheet, disks, size, bytes(stripe))
+        numbers = [len(disks), size, stripe_length, seed, data_length, seed + 1, *parts, len(sheet)]
+        self.add(kind, 8, numbers, bytes(disks) + sheet, tested(answer))
+
     def desk(self, kind: str, given: bytes) -> None:
         """The desk's lines stand in one line of the output, each newline shown as a bar."""
         self.add(kind, 6, [], given, second_desk.desk(given).replace("\n", "|"))
@@ -158,6 +187,12 @@ def given_back(code: Code, disks: Disks, plan: bytes, size: int, before: bytes, 
     """What was lent, with the wanted symbols of the valid stripe."""
     wanted = wanted_symbols(code, disks, listed_in(plan))
     return with_symbols(size, wanted, b"".join(stripe[s * size : (s + 1) * size] for s in wanted), before)
+
+
+def tested(answer: Tested) -> str:
+    if isinstance(answer, Refusal):
+        return refused(answer)
+    return f"unsound {answer.column}" if isinstance(answer, Unsound) else "sound"
 
 
 def shown(answer: Union[bytes, Refusal]) -> str:
