@@ -31,7 +31,7 @@
  *   buffer       where a code sheet is to be written                      as long as the sheet, or longer
  *                where a plan sheet is to be written                      3,081 bytes or more; with wanted symbols 3,114 or more;
  *                                                                         for a list of disks 3,210 or more
- *   index        which of several patterns, from 0                        any number
+ *   index        which of several patterns or equations, from 0           any number
  *   .._length    the bytes of the buffer named before it
  *
  * A symbol is the XOR of the data symbols whose bits are set in its row of the generator matrix. Bit 0 is the lowest.
@@ -76,6 +76,26 @@
  * symbols, and any two of those differ by the XOR of the patterns' stripes for exactly one choice among the d patterns. d is 0 exactly where
  * there is a plan. A wanted symbol in which the stripes of all d patterns are 0 is known all the same, and has a plan by itself.
  * Which d patterns are answered is left open. They are the same whenever the same is asked.
+ *
+ *
+ * Before a rebuild: can the survivors be sound?
+ *
+ * A rebuild believes what it reads. Where the survivors have symbols to spare, they can be held against each other first. An EQUATION is a set
+ * of surviving symbols that XOR to 0 in every valid stripe: their rows of the generator matrix sum to zero. The survivors are SOUND if some
+ * valid stripe agrees with them on every byte. They are so exactly if, in each byte column, all equations hold.
+ *
+ * Take three data disks of one symbol, d0, d1 and d2, and two parity disks, d0 XOR d1 XOR d2 and d0 XOR d1. With disk 0 lost there is one
+ * equation: disks 2, 3 and 4 XOR to 0. A changed byte on one of them is found, and one on disk 1 is not: every d0 and d1 with the same XOR
+ * give these parities. With both parity disks lost there is none, and any survivors are sound. A symbol whose row is zero is an equation by
+ * itself: it must be 0.
+ *
+ *   navorzim_tested tested = navorzim_test_survivors(sheet, sheet_length, disks, disks_length, L, stripe, stripe_length);
+ *   if (tested.number != 0) ..            refused, nothing was tested
+ *   else if (tested.sound) ..             rebuild: no valid stripe is ruled out
+ *   else ..                               byte tested.column of some surviving symbol is wrong; a rebuild would spread it
+ *
+ * The test doesn't say which symbol is wrong, and what no equation shows it can't find: sound isn't the same as right. The lost strips aren't
+ * looked at. A list of no disks is refused (24): of an array with all disks there, name one, and compare its strip with what its plan makes.
  *
  *
  * Answers and refusals
@@ -213,10 +233,22 @@ typedef struct {
     uint64_t number, place, length, reads, pattern, pattern_high, patterns;
 } navorzim_planned;
 
-/* A set of data symbols: bit t of low stands for data symbol t, bit t of high for data symbol 64 + t. Both are 0 on a refusal. */
+/* A set of data symbols, or for navorzim_equation of symbols: bit t of low stands for number t, bit t of high for number 64 + t. Both are 0
+ * on a refusal. */
 typedef struct {
     uint64_t number, place, low, high;
 } navorzim_set;
+
+/* How many equations there are; 0 on a refusal. */
+typedef struct {
+    uint64_t number, place, count;
+} navorzim_count;
+
+/* Number 0: tested. sound is 1, and column 0; or sound is 0, and column, below L, is the lowest byte column that shows it. Both are 0 on a
+ * refusal. */
+typedef struct {
+    uint64_t number, place, sound, column;
+} navorzim_tested;
 
 /* Bytes start up to start + length of slice 0, the stripe, or of slice 1, the spare strip. Length 0: refused. */
 typedef struct {
@@ -336,6 +368,29 @@ navorzim_verdict navorzim_rebuild(const uint8_t *sheet, size_t sheet_length, uin
 NAVORZIM_ANSWER
 navorzim_verdict navorzim_rebuild_disks(const uint8_t *sheet, size_t sheet_length, const uint8_t *disks, size_t disks_length,
                                         const uint8_t *plan, size_t plan_length, uint64_t size, uint8_t *stripe, size_t stripe_length);
+
+/* ---------------------------------------------------------------------------------------------------------------------------------
+ * Test the survivors: when these disks have failed, is there a valid stripe that agrees with this one on every byte of the other disks?
+ * sound is 1 exactly if there is. If there is none, sound is 0, and column is the lowest byte column within a symbol, 0 to L - 1, for which
+ * there is none: no valid stripe agrees with this one on byte `column` of every surviving symbol, and for each lower column some does. What
+ * the strips of the failed disks hold doesn't matter. With all disks lost the answer is sound. Writes nothing.
+ * Refusals: the code sheet's, 7, 24, 31, 32. */
+NAVORZIM_ANSWER
+navorzim_tested navorzim_test_survivors(const uint8_t *sheet, size_t sheet_length, const uint8_t *disks, size_t disks_length, uint64_t size,
+                                        const uint8_t *stripe, size_t stripe_length);
+
+/* The equations among the survivors: how many there are in a list of them when these disks have failed. Each is a set of surviving symbols
+ * whose rows sum to zero. They are enough: whatever survives is sound exactly if it meets all of them, in every byte column. Which list it is
+ * is left open. It is the same whenever the same is asked. There may be none: then any survivors are sound. Writes nothing.
+ * Refusals: the code sheet's, 7, 24. */
+NAVORZIM_ANSWER
+navorzim_count navorzim_equations(const uint8_t *sheet, size_t sheet_length, const uint8_t *disks, size_t disks_length);
+
+/* One of these equations: the symbols of number `index`, from 0, as bits. From the count on low and high are 0. Every call works the list out
+ * anew. Writes nothing.
+ * Refusals: the code sheet's, 7, 24. */
+NAVORZIM_ANSWER
+navorzim_set navorzim_equation(const uint8_t *sheet, size_t sheet_length, const uint8_t *disks, size_t disks_length, uint64_t index);
 
 /* ---------------------------------------------------------------------------------------------------------------------------------
  * One strip: where the r * L bytes of a disk stand in the stripe (slice 0). Reads the sheet alone; writes nothing. Where it refuses, the
