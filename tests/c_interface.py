@@ -15,6 +15,7 @@ from second_checker import P2, ROW_1, TWO_DISKS, Disks, check, plan_sheet, set_s
 from second_planner import BUFFER, LIST_BUFFER, SET_BUFFER, Wish, for_disk, for_disks, how_much_is_gone, judge_patterns, judge_plan
 from second_planner import planning_refusal
 from second_rebuild import rebuild
+from second_soundness import Tested, Unsound, damaged, equations_refusal, judge_equations, test_survivors
 
 FIELDS = {
     "verdict": ("number", "place"),
@@ -23,6 +24,8 @@ FIELDS = {
     "checked": ("number", "place", "reads"),
     "planned": ("number", "place", "length", "reads", "pattern", "pattern_high", "patterns"),
     "set": ("number", "place", "low", "high"),
+    "count": ("number", "place", "count"),
+    "tested": ("number", "place", "sound", "column"),
     "part": ("slice", "start", "length"),
 }
 ANSWERS = {
@@ -40,6 +43,9 @@ ANSWERS = {
     "lost_pattern": "set",
     "rebuild": "verdict",
     "rebuild_disks": "verdict",
+    "equations": "count",
+    "equation": "set",
+    "test_survivors": "tested",
     "strip": "part",
     "strip_verdict": "verdict",
     "look_up": "part",
@@ -160,6 +166,30 @@ def test_rebuild_disks(sheet: bytes, disks: bytes, plan: bytes, size: int, strip
     assert buffer.raw == after
 
 
+def test_equations(sheet: bytes, disks: bytes) -> None:
+    """Which list is free: it is among the survivors, right and enough, and from its end on there is nothing."""
+    refusal = equations_refusal(sheet, disks)
+    number, place, count = ask("equations", sheet, disks)
+    if refusal:
+        assert (number, place, count) == (*refusal, 0)
+    found = [ask("equation", sheet, disks, index) for index in range(count)]
+    assert all((number, place, high) == (0, 0, 0) for number, place, _, high in found)
+    assert refusal or (number, place, judge_equations(read_code(sheet), disks, [low for _, _, low, _ in found])) == (0, 0, None)
+    for beyond in (count, count + 1, 64 + count, 2**32, 2**63, 2**64 - 1):
+        assert ask("equation", sheet, disks, beyond) == (*(refusal or (0, 0)), 0, 0)
+
+
+def told_test(answer: Tested) -> tuple[int, ...]:
+    """Number, place, sound and column."""
+    if isinstance(answer, Refusal):
+        return (*answer, 0, 0)
+    return (0, 0, 0, answer.column) if isinstance(answer, Unsound) else (0, 0, 1, 0)
+
+
+def test_soundness(sheet: bytes, disks: bytes, size: int, stripe: bytes) -> None:
+    assert ask("test_survivors", sheet, disks, size, stripe) == told_test(test_survivors(sheet, disks, size, stripe))
+
+
 def test_views(sheet: bytes, disk: int, size: int, stripe: bytes, spare: bytes, symbol: int) -> None:
     expected = {
         "strip": second.strip(sheet, disk, size, stripe),
@@ -230,6 +260,14 @@ def test_sets(code: Code, sheet: bytes, size: int, stripe: bytes) -> None:
             test_check_disks(sheet, asked, tried)
             test_rebuild_disks(sheet, asked, tried, size, stripe)
         test_check(sheet, sum(disks[:1]), tried)
+    test_equations(sheet, disks)
+    data = random_bytes(code.data_symbols * size)
+    for given in (stripe, second.encoding(code, size, data) if size else b""):
+        test_soundness(sheet, disks, size, given)
+        for _ in range(3):
+            given = damaged(given, below(len(given)), 1 + below(255)) if given else given
+            test_soundness(sheet, disks, size, given)
+    test_soundness(sheet, disks, chosen((0, 65537, 2**32 + size, 2**64 - 1)), stripe)
 
 
 def test_large_disks() -> None:
@@ -269,6 +307,31 @@ def test_how_much_is_gone() -> None:
     assert len(test_lost_patterns(sheet_of(second.SQUARE), bytes(range(4)), b"")) == 4
 
 
+def test_every_survivor() -> None:
+    """Every single byte of a stripe of each family, with every disk lost; and the longest symbols, first, last and middle column."""
+    for code in (second.liberation(3, 3), second.liberation(5, 5), second.row_diagonal(5), second.evenodd(3), second.single_parity(4, 3)):
+        sheet, stripe = sheet_of(code), second.encoding(code, 3, random_bytes(3 * code.data_symbols))
+        for disk in range(code.disks):
+            test_equations(sheet, bytes([disk]))
+            test_soundness(sheet, bytes([disk]), 3, stripe)
+            for at in range(len(stripe)):
+                test_soundness(sheet, bytes([disk]), 3, damaged(stripe, at, 1 + below(255)))
+    for code in (Code(2, 1, 1, (0, 1)), second.row_diagonal(3)):
+        for size in (4095, 4096, 4097, 65535, 65536):
+            stripe = second.encoding(code, size, (random_bytes(97) * 676)[:size] * code.data_symbols)
+            for disk in range(code.disks):
+                test_soundness(sheet_of(code), bytes([disk]), size, stripe)
+                for column in (0, size // 2, size - 1):
+                    test_soundness(sheet_of(code), bytes([disk]), size, damaged(stripe, below(code.symbols) * size + column))
+    every = bytes(range(64))
+    for code in (Code(64, 1, 1, (0,) * 64), Code(64, 1, 64, tuple(2**bit for bit in range(64))), Code(2, 32, 5, (31,) * 64)):
+        sheet = sheet_of(code)
+        for disks in (every[: code.disks], every[:1], every[code.disks - 1 : code.disks], every[1 : code.disks]):
+            test_equations(sheet, disks)
+            test_soundness(sheet, disks, 2, random_bytes(128))
+            test_soundness(sheet, disks, 2, bytes(128))
+
+
 def main() -> None:
     for which in (second.SINGLE_PARITY, second.LIBERATION, second.ROW_DIAGONAL, second.EVENODD):
         for first in range(10):
@@ -282,6 +345,7 @@ def main() -> None:
     test_large_disks()
     test_two_losses()
     test_how_much_is_gone()
+    test_every_survivor()
     print(f"the C interface: {calls} calls answer as the second program")
 
 

@@ -76,6 +76,19 @@ static void rebuilding(void) {
     expect("rebuild, stripe", navorzim_rebuild(sheet, 22, 0, plan, 12, 1, NULL, 0).number, 32);
 }
 
+static void survivors(void) {
+    expect("equations, all", navorzim_equations(NULL, 0, NULL, 0).number, 1);
+    expect("equations, sheet", navorzim_equations(NULL, 0, disks, 1).number, 1);
+    expect("equations, disks", navorzim_equations(sheet, 22, NULL, 0).number, 24);
+    expect("equation, all", navorzim_equation(NULL, 0, NULL, 0, 0).number, 1);
+    expect("equation, sheet", navorzim_equation(NULL, 0, disks, 1, 0).number, 1);
+    expect("equation, disks", navorzim_equation(sheet, 22, NULL, 0, 0).number, 24);
+    expect("test, all", navorzim_test_survivors(NULL, 0, NULL, 0, 1, NULL, 0).number, 1);
+    expect("test, sheet", navorzim_test_survivors(NULL, 0, disks, 1, 1, stripe, 2).number, 1);
+    expect("test, disks", navorzim_test_survivors(sheet, 22, NULL, 0, 1, stripe, 2).number, 24);
+    expect("test, stripe", navorzim_test_survivors(sheet, 22, disks, 1, 1, NULL, 0).number, 32);
+}
+
 static void looking(void) {
     expect("strip, all", navorzim_strip_verdict(NULL, 0, 0, 1, NULL, 0).number, 1);
     expect("strip, sheet", navorzim_strip_verdict(NULL, 0, 0, 1, stripe, 2).number, 1);
@@ -96,6 +109,7 @@ int main(void) {
     checking_and_planning();
     several_disks();
     rebuilding();
+    survivors();
     looking();
     /* the same array and plan, with all their bytes */
     expect("encode", navorzim_encode(sheet, 22, 1, contents, 1, stripe, 2).number, 0);
