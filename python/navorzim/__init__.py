@@ -24,7 +24,7 @@ byte. What is of another type, or can't be written where that is needed, is a Ty
 from .code import Code
 from .library import Readable, Writable
 from .plans import Plan, Step
-from .refusals import NoPlan, Refused
+from .refusals import NoPlan, Refused, Unsound
 
 __version__ = "0.2.0"
-__all__ = ["Code", "NoPlan", "Plan", "Readable", "Refused", "Step", "Writable"]
+__all__ = ["Code", "NoPlan", "Plan", "Readable", "Refused", "Step", "Unsound", "Writable"]

@@ -5,7 +5,7 @@ from typing import Any, Iterable, Union
 
 from .library import Readable, Writable, ask, numbers
 from .plans import Plan
-from .refusals import NoPlan, Refused
+from .refusals import NoPlan, Refused, Unsound, members
 
 SHEET_BYTES, PLAN_BYTES = 518, 3210
 """Buffers that every code sheet and every plan sheet fits into."""
@@ -18,6 +18,15 @@ Disks = Union[int, Iterable[int]]
 
 Sheet = Union[Plan, Readable]
 """A plan, or the bytes of a plan sheet."""
+
+
+def as_list(disks: Disks) -> bytes:
+    """The list of a lost disk, or of several, a byte each."""
+    try:
+        disk = index(disks)  # type: ignore[arg-type]
+    except TypeError:
+        return numbers(disks)  # type: ignore[arg-type]
+    return numbers([disk])
 
 
 def accepted(answer: Any) -> Any:
@@ -242,6 +251,41 @@ class Code:
         if answer.number in (20, 21):
             raise Refused(answer.number, answer.place, memoryview(sheet).cast("B")[1])
         return accepted(answer)
+
+    # Testing the survivors
+
+    def test_survivors(self, disks: Disks, size: int, stripe: Readable) -> None:
+        """Whether the survivors of these lost disks can be sound: some valid stripe agrees with this one on every byte of the other disks.
+        Raises Unsound, with the lowest byte column that shows it, where none does. What the lost disks' places hold doesn't matter, and
+        nothing is written. Refused: 7, 24, 31, 32.
+
+        >>> code = Code.row_diagonal(3)
+        >>> stripe = code.encode(2, b"abcdefgh")
+        >>> code.test_survivors(0, 2, stripe)
+        >>> stripe[5] ^= 1  # byte 1 of symbol 2, which is on disk 1
+        >>> code.test_survivors(0, 2, stripe)
+        Traceback (most recent call last):
+        ...
+        navorzim.refusals.Unsound: the survivors aren't sound: no valid stripe agrees with them in byte 1 of every symbol
+        >>> code.test_survivors(1, 2, stripe)
+        """
+        tested = accepted(ask("test_survivors", self.sheet, as_list(disks), size, stripe))
+        if not tested.sound:
+            raise Unsound(int(tested.column))
+
+    def equations(self, disks: Disks) -> "tuple[tuple[int, ...], ...]":
+        """A list of equations among the survivors of these lost disks: the numbers of surviving symbols whose XOR is 0 in every valid stripe.
+        They are enough: survivors are sound exactly if they meet all of them. There may be none. Refused: 7, 24.
+
+        >>> Code.single_parity(2, 2).equations(0)
+        ()
+        >>> code = Code.row_diagonal(3)
+        >>> len(code.equations(0)), len(code.equations([0, 2]))
+        (2, 0)
+        """
+        asked = self.sheet, as_list(disks)
+        answers = (accepted(ask("equation", *asked, number)) for number in range(accepted(ask("equations", *asked)).count))
+        return tuple(members(answer.high << 64 | answer.low) for answer in answers)
 
     # Parts of a stripe
 

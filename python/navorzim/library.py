@@ -18,6 +18,8 @@ FIELDS = {
     "checked": ("number", "place", "reads"),
     "planned": ("number", "place", "length", "reads", "pattern", "pattern_high", "patterns"),
     "set": ("number", "place", "low", "high"),
+    "count": ("number", "place", "count"),
+    "tested": ("number", "place", "sound", "column"),
     "part": ("slice", "start", "length"),
 }
 """The answers of navorzim.h, each a struct of 64-bit numbers."""
@@ -41,6 +43,9 @@ CALLS = {
     "lost_pattern": ("set", (READ, READ, READ, NUMBER)),
     "rebuild": ("verdict", (READ, NUMBER, READ, NUMBER, WRITTEN)),
     "rebuild_disks": ("verdict", (READ, READ, READ, NUMBER, WRITTEN)),
+    "equations": ("count", (READ, READ)),
+    "equation": ("set", (READ, READ, NUMBER)),
+    "test_survivors": ("tested", (READ, READ, NUMBER, READ)),
     "strip": ("part", (READ, NUMBER, NUMBER, READ)),
     "strip_verdict": ("verdict", (READ, NUMBER, NUMBER, READ)),
     "look_up": ("part", (READ, NUMBER, NUMBER, READ, READ, NUMBER)),

@@ -80,6 +80,27 @@ class Refused(ValueError):
         return f"refused {self.number} at {self.place}: {self.reason}" + (f" ({place})" if place else "")
 
 
+def members(bits: int) -> "tuple[int, ...]":
+    """The numbers of the set bits, rising."""
+    return tuple(number for number in range(bits.bit_length()) if bits >> number & 1)
+
+
+class Unsound(Exception):
+    """The survivors aren't sound: no valid stripe agrees with them on every byte. `column` is the lowest byte column within a symbol for which
+    none does. Some surviving symbol is wrong there; which one isn't known.
+
+    >>> print(Unsound(300))
+    the survivors aren't sound: no valid stripe agrees with them in byte 300 of every symbol
+    """
+
+    def __init__(self, column: int) -> None:
+        super().__init__(column)
+        self.column = column
+
+    def __str__(self) -> str:
+        return f"the survivors aren't sound: no valid stripe agrees with them in byte {self.column} of every symbol"
+
+
 class NoPlan(Exception):
     """No plan of any length can rebuild what was asked for, and `patterns` say how much is gone: at least one, and at most as many as there
     are wanted symbols.
@@ -105,7 +126,7 @@ class NoPlan(Exception):
     @property
     def data_symbols(self) -> "tuple[tuple[int, ...], ...]":
         """The data symbols of each pattern."""
-        return tuple(tuple(symbol for symbol in range(pattern.bit_length()) if pattern >> symbol & 1) for pattern in self.patterns)
+        return tuple(map(members, self.patterns))
 
     def __str__(self) -> str:
         *others, last = map(str, self.data_symbols[0])

@@ -19,9 +19,10 @@ from arrays import SPECIAL_CODES, below, chosen, random_bytes, random_code, shuf
 from second_checker import check, plan_sheet, set_sheet
 from second_planner import SET_BUFFER, Wish, for_disk, for_disks, how_much_is_gone, image, judge_patterns, judge_plan, planning_refusal
 from second_rebuild import rebuild
+from second_soundness import SOUND, equations_refusal, judge_equations, test_survivors
 
 import navorzim.code
-from navorzim import Code, NoPlan, Plan, Refused, library
+from navorzim import Code, NoPlan, Plan, Refused, Unsound, library
 
 ASKED: "set[str]" = set()
 """The calls of the library that were asked."""
@@ -216,6 +217,37 @@ class Calls(unittest.TestCase):
                     self.hold(code, mine, disks[0], plan.sheet, size, stripe)
                 self.hold(code, mine, disks, set_sheet(code, good, []), size, stripe)
 
+    def hold_survivors(self, code: second.Code, mine: Code, disks: Any, size: int, stripe: bytes) -> None:
+        """Equations and test. Which list of equations is free."""
+        sheet, asked = second.sheet_of(code), [disks] if isinstance(disks, int) else disks
+        equations = answer(lambda: mine.equations(disks))
+        refusal = equations_refusal(sheet, asked)
+        if refusal:
+            self.assertEqual(equations, refusal)
+        else:
+            self.assertIsNone(judge_equations(code, asked, [sum(1 << symbol for symbol in equation) for equation in equations]))
+            self.assertTrue(all(list(equation) == sorted(set(equation)) for equation in equations))
+        lent = Guarded(stripe)
+        try:
+            tested: Any = answer(lambda: mine.test_survivors(disks, size, chosen((lent.view, some(stripe))))) or SOUND
+        except Unsound as why:
+            tested = (why.column,)
+        self.assertEqual(tested, test_survivors(sheet, asked, size, stripe))
+        self.assertEqual(lent.content(), stripe)
+
+    def test_survivors_of_disks(self) -> None:
+        for code in any_codes():
+            mine, size = Code(second.sheet_of(code)), chosen((1, 2, 7))
+            every = range(code.disks)
+            for _ in range(6):
+                good = sorted(shuffled(every)[: 1 + below(min(4, len(every)))])
+                disks = chosen((good, good, good, good[0], list(every), good[::-1], good * 2, [], [0] * 300, good[:-1] + [below(256)], 2**32 + good[0]))
+                stripe = second.encoding(code, size, random_bytes(code.data_symbols * size))
+                damaged = second.changed(stripe, below(len(stripe)), below(256))
+                for given in (stripe, damaged, random_bytes(len(stripe))):
+                    self.hold_survivors(code, mine, disks, size, given)
+                self.hold_survivors(code, mine, disks, chosen((0, 65537, size + 1, 2**64 + size)), stripe)
+
     def test_entries_beyond_a_byte(self) -> None:
         """An entry that doesn't fit into a byte is no disk and no symbol, also where its low byte is one."""
         code = Code.row_diagonal(5)
@@ -225,6 +257,8 @@ class Calls(unittest.TestCase):
             self.assertEqual(answer(lambda: code.plan_disks([0, 1], [0, 1, entry])), second.Refusal(23, 2))
             self.assertEqual(answer(lambda: code.plan_wanted(0, [1, entry])), second.Refusal(23, 1))
             self.assertEqual(answer(lambda: code.check([entry], code.plan(0))), second.Refusal(7))
+            self.assertEqual(answer(lambda: code.test_survivors([0, entry], 1, bytes(24))), second.Refusal(7))
+            self.assertEqual(answer(lambda: code.equations([entry, 0])), second.Refusal(7))
             for ask in (lambda: code.plan(entry), lambda: code.check(entry, code.plan(0)), lambda: code.strip(entry, 1, bytes(24))):
                 self.assertEqual(answer(ask), second.Refusal(7))
             self.assertEqual(answer(lambda: code.look_up(0, 1, bytes(24), bytes(4), entry)), second.Refusal(38))

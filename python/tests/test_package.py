@@ -19,7 +19,7 @@ from pathlib import Path
 from typing import Any, Callable, Optional
 
 import navorzim
-from navorzim import Code, NoPlan, Plan, Refused, library, refusals
+from navorzim import Code, NoPlan, Plan, Refused, Unsound, library, refusals
 
 PYTHON = Path(__file__).resolve().parents[1]
 HEADER = (PYTHON.parent / "include" / "navorzim.h").read_text("utf-8")
@@ -90,6 +90,13 @@ class Types(unittest.TestCase):
             lambda: code.rebuild([0], plan, 1, memoryview(bytes(8))),
             lambda: code.rebuild(0, plan, "1", stripe),
             lambda: code.rebuild(0, 5, 1, stripe),
+            lambda: code.test_survivors("0", 1, stripe),
+            lambda: code.test_survivors([0.0], 1, stripe),
+            lambda: code.test_survivors(0, "1", stripe),
+            lambda: code.test_survivors(0, 1, scattered),
+            lambda: code.test_survivors(0, 1, None),
+            lambda: code.equations(None),
+            lambda: code.equations(["0"]),
             lambda: code.strip(0, 1, "12345678"),
             lambda: code.strip(0, 1, scattered),
             lambda: code.strip(None, 1, stripe),
@@ -165,6 +172,7 @@ class Types(unittest.TestCase):
             for lent in (stripe, kept, memoryview(kept)):
                 code.strip(0, size, lent)
                 code.look_up(0, size, lent, spare, 5)
+                code.test_survivors(0, size, lent)
             _, most = tracemalloc.get_traced_memory()
         finally:
             tracemalloc.stop()
@@ -200,6 +208,7 @@ class Types(unittest.TestCase):
         self.assertNotEqual(code, code.sheet)
         self.assertEqual((bytes(code), bytes(plan)), (code.sheet, plan.sheet))
         self.assertEqual(str(pickle.loads(pickle.dumps(refused))), str(refused))
+        self.assertEqual(pickle.loads(pickle.dumps(Unsound(65535))).column, 65535)
         self.assertEqual((pickle.loads(pickle.dumps(why)).patterns, pickle.loads(pickle.dumps(more)).patterns), ((4,), (5, 2**100, 2)))
         self.assertEqual(str(why), "no plan can be: data symbol 2 could be another one")
         self.assertEqual(str(more), "no plan can be: data symbols 0 and 2 could be other ones, which is one pattern of 3")
