@@ -57,7 +57,7 @@ pub struct Planned {
     pub patterns: u64,
 }
 
-/// A set of data symbols: the low 64 and the high 64 of 128 bits.
+/// A set of data symbols, or of symbols: the low 64 and the high 64 of 128 bits.
 #[repr(C)]
 #[derive(Clone, Copy)]
 pub struct Set {
@@ -65,6 +65,25 @@ pub struct Set {
     pub place: u64,
     pub low: u64,
     pub high: u64,
+}
+
+/// How many equations there are.
+#[repr(C)]
+#[derive(Clone, Copy)]
+pub struct Count {
+    pub number: u64,
+    pub place: u64,
+    pub count: u64,
+}
+
+/// Survivors that were tested: sound is 1, or it is 0, with the lowest column that shows it.
+#[repr(C)]
+#[derive(Clone, Copy)]
+pub struct Tested {
+    pub number: u64,
+    pub place: u64,
+    pub sound: u64,
+    pub column: u64,
 }
 
 /// A part of the stripe (slice 0) or of the spare strip (slice 1).
@@ -153,6 +172,17 @@ extern "C" {
         stripe: BytesMut,
         stripe_length: usize,
     ) -> Verdict;
+    fn navorzim_equations(sheet: Bytes, sheet_length: usize, disks: Bytes, disks_length: usize) -> Count;
+    fn navorzim_equation(sheet: Bytes, sheet_length: usize, disks: Bytes, disks_length: usize, index: u64) -> Set;
+    fn navorzim_test_survivors(
+        sheet: Bytes,
+        sheet_length: usize,
+        disks: Bytes,
+        disks_length: usize,
+        size: u64,
+        stripe: Bytes,
+        stripe_length: usize,
+    ) -> Tested;
     fn navorzim_strip(
         sheet: Bytes,
         sheet_length: usize,
@@ -310,6 +340,28 @@ pub fn rebuild_disks(sheet: &[u8], disks: &[u8], plan: &[u8], size: u64, stripe:
             plan.len(),
             size,
             stripe.as_mut_ptr(),
+            stripe.len(),
+        )
+    }
+}
+
+pub fn equations(sheet: &[u8], disks: &[u8]) -> Count {
+    unsafe { navorzim_equations(sheet.as_ptr(), sheet.len(), disks.as_ptr(), disks.len()) }
+}
+
+pub fn equation(sheet: &[u8], disks: &[u8], index: u64) -> Set {
+    unsafe { navorzim_equation(sheet.as_ptr(), sheet.len(), disks.as_ptr(), disks.len(), index) }
+}
+
+pub fn test_survivors(sheet: &[u8], disks: &[u8], size: u64, stripe: &[u8]) -> Tested {
+    unsafe {
+        navorzim_test_survivors(
+            sheet.as_ptr(),
+            sheet.len(),
+            disks.as_ptr(),
+            disks.len(),
+            size,
+            stripe.as_ptr(),
             stripe.len(),
         )
     }

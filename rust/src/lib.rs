@@ -35,15 +35,20 @@
 //! one disk mean the list of that disk.
 //!
 //! Where no plan can be, planning answers how much is gone, as [`Pattern`]s.
+//!
+//! Before a rebuild, [`test_survivors`] says whether what survives can be sound, by the [`equations`] among the surviving symbols.
 #![deny(unsafe_code)]
 #![warn(missing_docs)]
 
 mod ffi;
 mod pattern;
 mod refusal;
+mod sets;
+mod survivors;
 
 pub use pattern::{lost_pattern, Pattern};
 pub use refusal::{Refusal, WantedSymbol};
+pub use survivors::{equations, test_survivors, Equation, Soundness};
 
 /// The length of the longest code sheet.
 pub const LONGEST_CODE_SHEET: usize = 518;
@@ -344,7 +349,7 @@ fn planned(answer: ffi::Planned, sheet: &[u8], disks: &[u8], wanted: &[u8]) -> R
     if answer.length > 0 {
         return Ok(Planned::Plan { length: answer.length as usize, reads: answer.reads });
     }
-    let first = Pattern::of_words(answer.pattern, answer.pattern_high);
+    let first = Pattern(sets::of_words(answer.pattern, answer.pattern_high));
     let others = (1..answer.patterns).filter_map(|index| lost_pattern(sheet, disks, wanted, index).transpose());
     Ok(Planned::NoPlan { patterns: std::iter::once(Ok(first)).chain(others).collect::<Result<_, _>>()? })
 }

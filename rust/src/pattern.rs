@@ -1,5 +1,5 @@
 //! What is gone where no plan can be.
-use crate::{encode, ffi, read_code, unless_refused, Refusal};
+use crate::{encode, ffi, read_code, sets, unless_refused, Refusal};
 
 /// A set of data symbols that shows why there is no plan: bit t stands for data symbol t.
 ///
@@ -35,19 +35,14 @@ pub struct Pattern(
 );
 
 impl Pattern {
-    /// The bits of data symbols below 64, and of those from 64 on.
-    pub(crate) fn of_words(low: u64, high: u64) -> Pattern {
-        Pattern(u128::from(high) << 64 | u128::from(low))
-    }
-
     /// Whether it has a data symbol.
     pub fn has(self, data_symbol: usize) -> bool {
-        data_symbol < 128 && self.0 >> data_symbol & 1 == 1
+        sets::has(self.0, data_symbol)
     }
 
     /// Its data symbols, rising.
     pub fn data_symbols(self) -> impl Iterator<Item = usize> {
-        (0..128).filter(move |&data_symbol| self.has(data_symbol))
+        sets::members(self.0)
     }
 
     /// The symbols in which its stripe isn't zero, under a code, rising. They all lie on lost disks, if planning answered it for this
@@ -82,6 +77,6 @@ impl Pattern {
 /// ```
 pub fn lost_pattern(sheet: &[u8], disks: &[u8], wanted: &[u8], index: u64) -> Result<Option<Pattern>, Refusal> {
     let set = ffi::lost_pattern(sheet, disks, wanted, index);
-    let pattern = Pattern::of_words(set.low, set.high);
+    let pattern = Pattern(sets::of_words(set.low, set.high));
     unless_refused(set.number, set.place, Some(pattern).filter(|pattern| pattern.0 != 0))
 }

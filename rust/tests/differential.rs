@@ -2,30 +2,9 @@
 //! lent byte compared. Each test prints its seed and how many calls it made: together they are more than 800,000.
 mod model;
 
-use model::random::{self, Random};
-use model::{Asked, No};
+use model::random::{self, calls, sheet, Random};
+use model::{told, Asked, No};
 use navorzim::{Family, Pattern, Planned, Planning, Refusal};
-
-/// An answer of the library as the model gives it.
-fn told<T>(answer: Result<T, Refusal>) -> Result<T, No> {
-    answer.map_err(|refusal| (refusal.number(), refusal.place()))
-}
-
-/// How many calls a test makes, printed.
-fn calls(count: usize) -> usize {
-    println!("{count} calls");
-    count
-}
-
-/// A code's sheet, one in four damaged.
-fn sheet(random: &mut Random) -> (model::Code, Vec<u8>) {
-    let code = random::code(random);
-    let mut sheet = code.sheet();
-    if random.one_in(4) {
-        sheet = random::damaged(random, &sheet);
-    }
-    (code, sheet)
-}
 
 /// The library's planning.
 fn planned(sheet: &[u8], asked: Asked, buffer: &mut [u8]) -> Result<Planned, Refusal> {

@@ -1,6 +1,6 @@
 //! The rules once more, in plain Rust and by other means than the proved library: rows are lists of truth values, a lost place is a
 //! value that may be missing, a good list is found among all disks or all lost symbols from front to back, encoding scatters each data
-//! symbol, and how much of the wanted symbols is gone is a question of ranks.
+//! symbol, how much of the wanted symbols is gone is a question of ranks, and survivors are tested by data that give some of them.
 #![allow(dead_code)]
 use std::cmp::Ordering;
 use std::collections::HashSet;
@@ -9,6 +9,11 @@ pub mod random;
 
 /// A refusal's number and place.
 pub type No = (u64, u64);
+
+/// An answer of the library as the model gives it.
+pub fn told<T>(answer: Result<T, navorzim::Refusal>) -> Result<T, No> {
+    answer.map_err(|refusal| (refusal.number(), refusal.place()))
+}
 
 /// One symbol's row: which data symbols it is the XOR of.
 pub type Row = Vec<bool>;
@@ -37,6 +42,12 @@ impl Code {
             .filter(|disk| disks.iter().any(|&d| d as usize == *disk))
             .flat_map(|disk| self.strip(disk))
             .collect()
+    }
+
+    /// The symbols that survive when these disks are lost, rising.
+    pub fn survivors(&self, disks: &[u8]) -> Vec<usize> {
+        let lost = self.strips(disks);
+        (0..self.symbols()).filter(|s| !lost.contains(s)).collect()
     }
 
     /// The code's sheet.
@@ -414,8 +425,7 @@ pub fn rank(rows: &[Row]) -> usize {
 
 /// How much is gone of symbols of lost disks: what their rows add to the rank of the survivors'.
 pub fn gone(code: &Code, disks: &[u8], wanted: &[usize]) -> usize {
-    let lost = code.strips(disks);
-    let mut rows: Vec<Row> = (0..code.symbols()).filter(|s| !lost.contains(s)).map(|s| code.rows[s].clone()).collect();
+    let mut rows: Vec<Row> = code.survivors(disks).into_iter().map(|s| code.rows[s].clone()).collect();
     let surviving = rank(&rows);
     rows.extend(wanted.iter().map(|&s| code.rows[s].clone()));
     rank(&rows) - surviving
@@ -472,9 +482,7 @@ fn zero_in(stripe: &[u8], size: usize, mut symbols: impl Iterator<Item = usize>)
 /// Whether a pattern is good: K bits, its stripe zero on every survivor and not zero in a wanted symbol.
 pub fn good_pattern(code: &Code, disks: &[u8], wanted: &[usize], pattern: impl Into<u128>, size: usize) -> bool {
     let Some(stripe) = pattern_stripe(code, pattern.into(), size) else { return false };
-    let lost = code.strips(disks);
-    zero_in(&stripe, size, (0..code.symbols()).filter(|s| !lost.contains(s)))
-        && !zero_in(&stripe, size, wanted.iter().copied())
+    zero_in(&stripe, size, code.survivors(disks).into_iter()) && !zero_in(&stripe, size, wanted.iter().copied())
 }
 
 /// What a pattern's stripe shows on each wanted symbol.
@@ -493,9 +501,9 @@ pub fn tell_what_is_gone(code: &Code, disks: &[u8], wanted: &[usize], patterns: 
 /// The same by trying all data of one bit a symbol, of which there are few: each pattern is zero on the survivors, and whatever is zero there
 /// shows the XOR of the images of exactly one subset of the patterns.
 pub fn tell_what_is_gone_by_trying(code: &Code, disks: &[u8], wanted: &[usize], patterns: &[u128]) -> bool {
-    let survivors = |s: &usize| !code.strips(disks).contains(s);
+    let survivors = code.survivors(disks);
     let unseen = |data: &u128| {
-        pattern_stripe(code, *data, 1).is_some_and(|stripe| zero_in(&stripe, 1, (0..code.symbols()).filter(survivors)))
+        pattern_stripe(code, *data, 1).is_some_and(|stripe| zero_in(&stripe, 1, survivors.iter().copied()))
     };
     if !patterns.iter().all(unseen) {
         return false;
@@ -505,6 +513,83 @@ pub fn tell_what_is_gone_by_trying(code: &Code, disks: &[u8], wanted: &[usize], 
     let subsets: Vec<Row> = sums.map(|sum| image(code, wanted, sum)).collect();
     let mut all = (0..1u128 << code.data).filter(unseen).map(|data| image(code, wanted, data));
     all.all(|shown| subsets.iter().filter(|&subset| *subset == shown).count() == 1)
+}
+
+/// The equations, or their refusal: code sheet, 7, 24.
+pub fn equations_refusal(sheet: &[u8], disks: &[u8]) -> Result<Code, No> {
+    let code = read_code(sheet)?;
+    disk_list(&code, disks)?;
+    Ok(code)
+}
+
+/// Whether survivors can be sound: code sheet, 7, 24, 31, 32. The lowest column that shows that they can't.
+pub fn test_survivors(sheet: &[u8], disks: &[u8], size: u64, stripe: &[u8]) -> Result<Option<usize>, No> {
+    let code = equations_refusal(sheet, disks)?;
+    let size = symbol_length(size)?;
+    if stripe.len() != code.symbols() * size {
+        return Err((32, 0));
+    }
+    let data = data_behind(&code, disks, size, stripe);
+    let valid = scatter(&code, size, &data);
+    let differing = |s: usize| (0..size).find(|column| valid[s * size + column] != stripe[s * size + column]);
+    Ok(code.survivors(disks).into_iter().filter_map(differing).min())
+}
+
+/// Data that give as many survivors as are independent: each takes one data symbol, and the others are zero.
+fn data_behind(code: &Code, disks: &[u8], size: usize, stripe: &[u8]) -> Vec<u8> {
+    let mut solved: Vec<(usize, Row, Vec<u8>)> = Vec::new();
+    let add = |(row, bytes): (&mut Row, &mut Vec<u8>), (other, others): (&Row, &Vec<u8>)| {
+        row.iter_mut().zip(other).for_each(|(bit, other)| *bit ^= other);
+        bytes.iter_mut().zip(others).for_each(|(byte, other)| *byte ^= other);
+    };
+    for s in code.survivors(disks) {
+        let (mut row, mut bytes) = (code.rows[s].clone(), stripe[s * size..(s + 1) * size].to_vec());
+        for (taken, other, others) in &solved {
+            if row[*taken] {
+                add((&mut row, &mut bytes), (other, others));
+            }
+        }
+        let Some(free) = row.iter().position(|&set| set) else { continue };
+        for (_, other, others) in solved.iter_mut().filter(|(_, other, _)| other[free]) {
+            add((other, others), (&row, &bytes));
+        }
+        solved.push((free, row, bytes));
+    }
+    let mut data = vec![0; code.data * size];
+    for (taken, _, bytes) in solved {
+        data[taken * size..(taken + 1) * size].copy_from_slice(&bytes);
+    }
+    data
+}
+
+/// Whether equations are among the survivors, right and enough: surviving symbols whose rows sum to zero, and as many independent ones as
+/// there are survivors beyond the rank of their rows.
+pub fn good_equations(code: &Code, disks: &[u8], equations: &[u128]) -> bool {
+    let survivors = code.survivors(disks);
+    let members: Vec<Row> = equations.iter().map(|e| (0..128).map(|s| e >> s & 1 == 1).collect()).collect();
+    let zero =
+        |row: &Row| (0..code.data).all(|t| survivors.iter().filter(|&&s| row[s] && code.rows[s][t]).count() % 2 == 0);
+    let among = |row: &Row| (0..128).all(|s| !row[s] || survivors.contains(&s));
+    let rows: Vec<Row> = survivors.iter().map(|&s| code.rows[s].clone()).collect();
+    members.iter().all(|row| among(row) && zero(row)) && rank(&members) == survivors.len() - rank(&rows)
+}
+
+/// The same by trying all bits of the survivors, of which there are few: they meet the equations exactly if some data give them.
+pub fn good_equations_by_trying(code: &Code, disks: &[u8], equations: &[u128]) -> bool {
+    let survivors = code.survivors(disks);
+    let lost = code.strips(disks).iter().fold(0u128, |set, s| set | 1 << s);
+    let given: HashSet<u128> = (0..1u128 << code.data)
+        .map(|data| {
+            let stripe = pattern_stripe(code, data, 1).expect("K bits");
+            survivors.iter().filter(|&&s| stripe[s] == 1).fold(0, |set, s| set | 1 << s)
+        })
+        .collect();
+    let choices = (0..1u32 << survivors.len()).map(|choice| {
+        (0..survivors.len()).filter(|i| choice >> i & 1 == 1).fold(0u128, |set, i| set | 1 << survivors[i])
+    });
+    let meets_all = |bits: u128| equations.iter().all(|equation| (equation & bits).count_ones() & 1 == 0);
+    equations.iter().all(|equation| equation & lost == 0 && equation >> code.symbols() == 0)
+        && choices.into_iter().all(|bits| meets_all(bits) == given.contains(&bits))
 }
 
 /// One strip: code sheet, 7, 31, 32. The answer is its first byte and its end.

@@ -38,6 +38,22 @@ impl Random {
     }
 }
 
+/// How many calls a test makes, printed.
+pub fn calls(count: usize) -> usize {
+    println!("{count} calls");
+    count
+}
+
+/// A code's sheet, one in four damaged.
+pub fn sheet(random: &mut Random) -> (Code, Vec<u8>) {
+    let code = code(random);
+    let mut sheet = code.sheet();
+    if random.one_in(4) {
+        sheet = damaged(random, &sheet);
+    }
+    (code, sheet)
+}
+
 /// A code within the limits: dense, sparse, of low rank, with zero or equal rows, with identity rows, or a family's.
 pub fn code(random: &mut Random) -> Code {
     if random.one_in(4) {
