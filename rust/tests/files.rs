@@ -104,6 +104,7 @@ fn locked_files_are_left() {
     let lines = [
         ("stripes", "rebuild code 0 plan --symbol 1 stripes --in-place"),
         ("stripes", "strip code 0 --symbol 1 stripes -o out"),
+        ("stripes", "test code 0 --symbol 1 stripes"),
         ("data", "encode code --symbol 1 data -o out"),
         ("out", "encode code --symbol 1 data -o out"),
         ("out", "plan code 0 -o out"),

@@ -96,6 +96,8 @@ fn standard_input_of_a_wrong_length_is_refused_at_its_end() {
         ("decode code --symbol 3 - -o out", 0, 32),
         ("strip code 0 --symbol 3 - -o out", 23, 32),
         ("rebuild code 0 plan --symbol 3 - -o out", 47, 32),
+        ("test code 0 --symbol 3 -", 25, 32),
+        ("test code 0 --symbol 3 -", 0, 32),
     ] {
         let (ran, _) = folder.run_with_input(line, &vec![1; input]);
         let said = format!("navorzim: refused {number} at 0: ");

@@ -684,6 +684,7 @@ fn stripes_of_a_wrong_length_are_refused() {
             "rebuild code 0 plan --symbol 1 odd --in-place",
             "rebuild code 0 plan --symbol 1 odd -o out",
             "strip code 0 --symbol 1 odd -o out",
+            "test code 0 --symbol 1 odd",
         ] {
             let sentence = folder.refused(line, 32, 0);
             assert!(sentence.contains(&format!("has {length} bytes")), "{sentence}");
@@ -692,6 +693,8 @@ fn stripes_of_a_wrong_length_are_refused() {
     }
     folder.refused("rebuild code 0 plan --symbol 0 odd --in-place", 31, 0);
     folder.refused("strip code 4 --symbol 0 odd -o out", 7, 0);
+    folder.refused("test code 0,4 --symbol 0 odd", 7, 0);
+    folder.refused("test code 0,3 --symbol 65537 odd", 31, 0);
 }
 
 #[test]
@@ -726,6 +729,43 @@ fn strips_are_taken_out() {
         let expected = format!("wrote out: 9 strips of disk {disk}, 5 symbols of 64 bytes each\n");
         assert_eq!(said, expected);
     }
+}
+
+#[test]
+fn survivors_are_tested() {
+    let folder = Folder::new();
+    let (_, stripes) = liberation_stripes(&folder, 30);
+    folder.put("stripes", &ruined(&stripes, 2));
+    let by = "  by symbols of 64 bytes (L), code code (Liberation, w 5, k 5: 7 disks of 5 rows, 25 data symbols)\n";
+    let sees = |disks: &str| format!("  with {disks} lost, by 5 equations, seeing 30 of 30 surviving symbols\n{by}");
+    let said = folder.done("test code 2 --symbol 64 stripes");
+    assert_eq!(said, format!("sound: 30 stripes in stripes\n{}", sees("disk 2")));
+    // The ruined disk is taken for one that survives.
+    let ran = folder.fails("test code 3 --symbol 64 stripes", 1);
+    assert!(
+        ran.out.starts_with("not sound: 30 of 30 stripes in stripes\n  stripe 0, from byte 0 on: column 0\n"),
+        "{ran:?}"
+    );
+    assert!(ran.out.contains("  stripe 9, from byte 20160 on: column 0\n  and 20 more\n  with disk 3 lost"), "{ran:?}");
+    assert_eq!(ran.err, "navorzim: 30 of 30 stripes can't be sound (stripes)\n");
+
+    // Two damaged bytes in stripe 4, of which the lower column is named, and one in the last stripe.
+    let mut damaged = ruined(&stripes, 2);
+    for (stripe, symbol, column) in [(4, 0, 63), (4, 34, 5), (29, 20, 17)] {
+        damaged[(stripe * 35 + symbol) * 64 + column] ^= 0x80;
+    }
+    folder.put("damaged", &damaged);
+    let ran = folder.fails("test code 2 --symbol 64 damaged", 1);
+    let named = "  stripe 4, from byte 8960 on: column 5\n  stripe 29, from byte 64960 on: column 17\n";
+    assert_eq!(ran.out, format!("not sound: 2 of 30 stripes in damaged\n{named}{}", sees("disk 2")));
+    assert_eq!(ran.err, "navorzim: 2 of 30 stripes can't be sound (damaged)\n");
+    let (ran, out) = folder.run_with_input("test code 2 --symbol 64 -", &damaged);
+    assert_eq!((ran.status, &*ran.err), (1, "navorzim: 2 of 30 stripes can't be sound (-)\n"));
+    assert_eq!(String::from_utf8_lossy(&out), format!("not sound: 2 of 30 stripes in -\n{named}{}", sees("disk 2")));
+    // Where no equation is left, nothing can be said against any bytes.
+    let said = folder.done("test code 6,2 --symbol 64 damaged");
+    let none = "with disks 2 and 6 lost, by no equation: what survives could be anything\n";
+    assert_eq!(said, format!("sound: 30 stripes in damaged\n  {none}{by}"));
 }
 
 #[test]
@@ -956,6 +996,7 @@ fn damaged_sheets_fail_every_command() {
         for line in [
             "encode noise --symbol 1 data -o out",
             "plan noise 0 -o out",
+            "test noise 0 --symbol 1 stripes",
             "strip noise 0 --symbol 1 stripes -o out",
             "show noise --svg out",
         ] {
@@ -982,6 +1023,7 @@ fn huge_files_are_no_burden() {
     assert!(said.contains("68719476737 bytes"), "{said}");
     assert!(run("encode code --symbol 1 huge -o out").contains("refused 33 at 0"));
     assert!(run("strip code 0 --symbol 1 huge -o out").contains("refused 32 at 0"));
+    assert!(run("test code 0 --symbol 1 huge").contains("refused 32 at 0"));
     assert!(!folder.has("out"));
 
     // A good sheet with a tail is too long, however long the tail is.
@@ -1232,7 +1274,8 @@ fn help_is_there_and_its_examples_run() {
     let all = folder.done("help");
     assert_eq!(folder.done("--help"), all);
     let arrays = ["family", "split", "status", "restore", "join"];
-    for command in arrays.into_iter().chain(["encode", "decode", "plan", "check", "rebuild", "strip", "show", "demo"]) {
+    let stripes = ["encode", "decode", "plan", "check", "test", "rebuild", "strip", "show", "demo"];
+    for command in arrays.into_iter().chain(stripes) {
         assert!(all.contains(&format!("\n  {command} ")), "{command}");
         let help = folder.done(&format!("{command} --help"));
         assert_eq!(folder.done(&format!("help {command}")), help);
@@ -1416,7 +1459,7 @@ fn the_readme_is_true() {
         }
         lines += 1;
     }
-    assert_eq!(lines, 16);
+    assert_eq!(lines, 17);
     for name in ["joined.txt", "decoded.txt"] {
         assert_eq!(folder.get(name), folder.get("examples/register.txt"), "{name}");
     }

@@ -9,7 +9,7 @@ use crate::sheets::{counted, Code, Plan};
 use crate::stream::{self, End, Pieces, Stream};
 use crate::text::Style;
 use crate::wanted::{Request, Wanted};
-use crate::{arrays, demo, help, output, restore, svg, text};
+use crate::{arrays, demo, help, output, restore, soundness, svg, text};
 use navorzim::{Family, Refusal, WantedSymbol};
 use std::ffi::OsString;
 use std::path::{Path, PathBuf};
@@ -44,6 +44,7 @@ pub const COMMANDS: &[Command] = &[
     Command { name: "decode", options: &["-o", "--length", "--symbol", "--wait"], help: help::DECODE, run: decode },
     Command { name: "plan", options: &["-o", "--wait", "--want"], help: help::PLAN, run: plan },
     Command { name: "check", options: &[], help: help::CHECK, run: check },
+    Command { name: "test", options: &["--symbol", "--wait"], help: help::TEST, run: soundness::run },
     Command {
         name: "rebuild",
         options: &["-o", "--in-place", "--symbol", "--wait"],

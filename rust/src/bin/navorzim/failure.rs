@@ -12,6 +12,8 @@ pub enum Failure {
     NoPlan { text: String, what: String, code: PathBuf },
     /// Disks are missing and can be rebuilt: `text` is the answer, and nothing is to be complained of.
     Missing { text: String },
+    /// Stripes whose survivors can't be sound: `text` is the answer, for standard output, and `what` says how many.
+    Unsound { text: String, what: String, stripes: PathBuf },
     /// Something else stands where a disk's file should be: `text` is the answer, for standard output, and `what` says it.
     InTheWay { text: String, what: String },
     /// The library said no, and there is a picture of why: `text`, for standard output.
@@ -52,12 +54,12 @@ impl Failure {
         Failure::Refused(Refused { refusal, detail, file })
     }
 
-    /// 1 for a refusal and for disks that can't be rebuilt, 2 for everything that never reached the library, 3 for disks that are
-    /// missing and can be rebuilt.
+    /// 1 for a refusal, for disks that can't be rebuilt and for stripes that can't be sound, 2 for everything that never reached the library,
+    /// 3 for disks that are missing and can be rebuilt.
     pub fn status(&self) -> u8 {
         match self {
             Failure::Refused(_) | Failure::Drawn { .. } | Failure::NoPlan { .. } => 1,
-            Failure::InTheWay { .. } | Failure::Unexpected { .. } => 1,
+            Failure::Unsound { .. } | Failure::InTheWay { .. } | Failure::Unexpected { .. } => 1,
             Failure::Misuse { .. } | Failure::File(_) => 2,
             Failure::Missing { .. } => 3,
         }
@@ -83,7 +85,9 @@ impl fmt::Display for Failure {
         match self {
             Failure::Missing { text } => write!(f, "{text}"),
             Failure::Refused(refused) | Failure::Drawn { refused, .. } => write!(f, "{refused}"),
-            Failure::NoPlan { what, code, .. } => write!(f, "{what} ({})", printable(code)),
+            Failure::NoPlan { what, code: file, .. } | Failure::Unsound { what, stripes: file, .. } => {
+                write!(f, "{what} ({})", printable(file))
+            }
             Failure::Misuse { what, command: "" } => {
                 write!(f, "{what}\n`navorzim help` says how it is used")
             }

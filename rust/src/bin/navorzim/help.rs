@@ -19,6 +19,7 @@ The same with a file of stripes, and with plans:
   decode    makes data of stripes
   plan      plans how to rebuild disks, or some of their rows, or shows why it can't be done
   check     judges a plan for a code and the lost disks
+  test      says whether the surviving disks of a file of stripes can be sound
   rebuild   rebuilds what a plan wants in a file of stripes; the plan is checked first
   strip     takes a disk's strips out of a file of stripes
   show      draws a code, a plan, or why there is none
@@ -42,9 +43,9 @@ can't be kept is narrowed. What is made of data, stripes or disks can be read by
 read those. A signal leaves no temporary file; the .navorzim-*.part of a killed run is removed by
 the next one that writes to the folder.
 
-Exit status: 0 done, 1 refused or disks that can't be rebuilt, 2 misuse or a file that can't be
-used, 3 from status where disks are missing and can be rebuilt. A refusal is its number, its place
-and a sentence, on standard error.
+Exit status: 0 done, 1 refused, disks that can't be rebuilt or stripes that can't be sound,
+2 misuse or a file that can't be used, 3 from status where disks are missing and can be rebuilt.
+A refusal is its number, its place and a sentence, on standard error.
 ";
 
 pub const DEMO: &str = "\
@@ -245,6 +246,29 @@ Refused: the code sheet (1 to 6), 7 (no such disk), the plan (7 and 11 to 25).
 
 example: navorzim check code.sheet 0 plan.sheet
 example: navorzim check code.sheet 0,3 both.sheet
+";
+
+pub const TEST: &str = "\
+usage: navorzim test CODE DISKS --symbol L STRIPES [--wait SECONDS]
+
+Reads the code sheet CODE and the stripes of N × L bytes in STRIPES, and says of each whether
+what survives of it can be sound when the disks DISKS, one like 3 or several like 0,3, are lost:
+whether some stripe of this code agrees with it on every byte of the other disks. For use before
+a rebuild, which would spread a damaged byte. What the lost strips hold doesn't matter. Nothing
+is written.
+
+Where stripes aren't sound, the first ten are named, each with the lowest byte column, 0 to L - 1,
+that shows it: some surviving symbol is wrong in this byte. Which one isn't known. The answer says
+how many equations among the surviving symbols it went by, and how many symbols stand in one:
+damage to the others can't be seen.
+
+  --wait SECONDS  waits so long for files that somebody else has locked
+
+Refused: the code sheet (1 to 6), 7 (no such disk), 31 (L is 1 to 65,536), 32 (STRIPES isn't
+whole stripes). Exit status: 0 if all stripes are sound, 1 if one isn't.
+
+example: navorzim test code.sheet 0 --symbol 64 stripes.bin
+example: navorzim test code.sheet 0,3 --symbol 64 stripes.bin
 ";
 
 pub const REBUILD: &str = "\

@@ -1,7 +1,7 @@
 //! `navorzim`: code sheets, plans and stripes in files, over the proved library.
 //!
-//! Exit status: 0 done, 1 refused or disks that can't be rebuilt, 2 misuse or a file that can't be used, 3 from `status` where disks are
-//! missing and can be rebuilt.
+//! Exit status: 0 done, 1 refused, disks that can't be rebuilt or stripes that can't be sound, 2 misuse or a file that can't be used, 3 from
+//! `status` where disks are missing and can be rebuilt.
 #![deny(unsafe_code)]
 
 mod arguments;
@@ -34,6 +34,7 @@ mod rescue;
 mod restore;
 mod rights;
 mod sheets;
+mod soundness;
 mod stream;
 mod stuck;
 mod svg;
@@ -136,6 +137,7 @@ fn complain(failure: &Failure, aside: bool) -> u8 {
     let status = match failure {
         Failure::Missing { text } => return print(text, aside, failure.status()),
         Failure::NoPlan { text, .. }
+        | Failure::Unsound { text, .. }
         | Failure::InTheWay { text, .. }
         | Failure::Drawn { text, .. }
         | Failure::Unexpected { text, .. } => print(text, aside, failure.status()),

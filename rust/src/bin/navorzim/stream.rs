@@ -1,6 +1,6 @@
 //! Long inputs, worked on stripe by stripe: no more than one stripe is in memory at a time.
 use crate::failure::Failure;
-use crate::files::{trouble, Input, Purpose};
+use crate::files::{trouble, Held, Input, Purpose};
 use crate::output::Output;
 use crate::progress::Progress;
 use crate::replacement::Replacement;
@@ -124,15 +124,37 @@ pub fn each(
         (None, Some(held)) => Output::File(Box::new(Replacement::in_place(held, kept)?)),
         (None, None) => return Err(trouble("write", stream.input.path(), "standard input can't be replaced")),
     };
-    let mut piece = vec![0; stream.pieces.length()];
     let progress = Progress::new(stream.count());
+    let count = pass(&mut stream, &progress, |_, piece| work(piece, &mut output))?;
+    progress.flushing("it".to_string());
+    output.finish(stream.input.held())?;
+    Ok(count)
+}
+
+/// Looks at each piece of an input in turn, with its number, and writes nothing; answers how many there were. Refuses if the input changed
+/// meanwhile.
+pub fn look_at_each(
+    mut stream: Stream,
+    mut look: impl FnMut(u64, &[u8]) -> Result<(), Failure>,
+) -> Result<u64, Failure> {
+    let progress = Progress::new(stream.count());
+    let count = pass(&mut stream, &progress, |number, piece| look(number, piece))?;
+    stream.input.held().map_or(Ok(()), Held::unchanged)?;
+    Ok(count)
+}
+
+/// One pass over an input: each piece, with its number, in the same place of memory.
+fn pass(
+    stream: &mut Stream,
+    progress: &Progress,
+    mut work: impl FnMut(u64, &mut [u8]) -> Result<(), Failure>,
+) -> Result<u64, Failure> {
+    let mut piece = vec![0; stream.pieces.length()];
     let mut count = 0;
     while stream.next(&mut piece)? {
-        work(&mut piece, &mut output)?;
+        work(count, &mut piece)?;
         progress.advance(1);
         count += 1;
     }
-    progress.flushing("it".to_string());
-    output.finish(stream.input.held())?;
     Ok(count)
 }
