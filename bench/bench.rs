@@ -3,7 +3,8 @@
 use std::hint::black_box;
 use std::time::Instant;
 
-/// The proved calls, by their interface for C. A refusal is its number; a read count is 1000 plus it; a pattern is 999.
+/// The proved calls, by their interface for C. A refusal is its number; a read count is 1000 plus it; a pattern is 999; sound survivors are
+/// 1000, others 2000 plus the column.
 mod proved {
     #[repr(C)]
     struct Verdict {
@@ -29,6 +30,14 @@ mod proved {
         patterns: u64,
     }
 
+    #[repr(C)]
+    struct Tested {
+        number: u64,
+        place: u64,
+        sound: u64,
+        column: u64,
+    }
+
     type Bytes = *const u8;
     type BytesMut = *mut u8;
 
@@ -37,6 +46,7 @@ mod proved {
         fn navorzim_rebuild(s: Bytes, sl: usize, disk: u64, p: Bytes, pl: usize, size: u64, stripe: BytesMut, stripe_length: usize) -> Verdict;
         fn navorzim_plan(s: Bytes, sl: usize, disk: u64, buffer: BytesMut, buffer_length: usize) -> Planned;
         fn navorzim_check(s: Bytes, sl: usize, disk: u64, p: Bytes, pl: usize) -> Checked;
+        fn navorzim_test_survivors(s: Bytes, sl: usize, d: Bytes, dl: usize, size: u64, stripe: Bytes, stripe_length: usize) -> Tested;
     }
 
     // SAFETY, for each call: a pointer is that of a slice with the length beside it, and what is written is lent for the call alone.
@@ -66,6 +76,16 @@ mod proved {
             checked.number
         } else {
             1000 + checked.reads
+        }
+    }
+
+    pub fn test(sheet: &[u8], disks: &[u8], size: usize, stripe: &[u8]) -> u64 {
+        let (d, x) = ((disks.as_ptr(), disks.len()), (stripe.as_ptr(), stripe.len()));
+        let tested = unsafe { navorzim_test_survivors(sheet.as_ptr(), sheet.len(), d.0, d.1, size as u64, x.0, x.1) };
+        match tested {
+            Tested { number, .. } if number != 0 => number,
+            Tested { sound: 1, .. } => 1000,
+            Tested { column, .. } => 2000 + column,
         }
     }
 }
@@ -328,6 +348,39 @@ mod simple {
         (a & b).count_ones() % 2 == 1
     }
 
+    /// Patterns reduced row by row: the pivot of each row, or 0, and what is left of the patterns.
+    #[inline]
+    fn eliminate(rows: &[u64], k: usize) -> ([u64; 64], [u64; 64]) {
+        let (mut pivots, mut patterns) = ([0u64; 64], [0u64; 64]);
+        for (bit, pattern) in patterns.iter_mut().take(k).enumerate() {
+            *pattern = 1 << bit;
+        }
+        for (row, pivot) in rows.iter().zip(&mut pivots) {
+            for pattern in &mut patterns[..k] {
+                if odd(*pattern, *row) {
+                    if *pivot == 0 {
+                        *pivot = *pattern;
+                    }
+                    *pattern ^= *pivot;
+                }
+            }
+        }
+        (pivots, patterns)
+    }
+
+    /// The rows with a pivot that sum to a row, by back substitution.
+    #[inline]
+    fn subset_for(pivots: &[u64; 64], rows: &[u64], row: u64) -> u64 {
+        let (mut left, mut subset) = (row, 0u64);
+        for s in (0..rows.len()).rev() {
+            if pivots[s] != 0 && odd(pivots[s], left) {
+                left ^= rows[s];
+                subset |= 1 << s;
+            }
+        }
+        subset
+    }
+
     /// Planning by the same method: patterns reduced row by row, then back substitution.
     #[inline(never)]
     pub fn plan(sheet: &[u8], disk: usize, buffer: &mut [u8]) -> u64 {
@@ -345,21 +398,7 @@ mod simple {
         let lost = disk * code.r..(disk + 1) * code.r;
         let mut rows = code.rows;
         rows[lost.clone()].fill(0);
-        let mut patterns = [0u64; 64];
-        for (bit, pattern) in patterns.iter_mut().take(code.k).enumerate() {
-            *pattern = 1 << bit;
-        }
-        let mut pivots = [0u64; 64];
-        for s in 0..symbols {
-            for pattern in &mut patterns[..code.k] {
-                if odd(*pattern, rows[s]) {
-                    if pivots[s] == 0 {
-                        pivots[s] = *pattern;
-                    }
-                    *pattern ^= pivots[s];
-                }
-            }
-        }
+        let (pivots, patterns) = eliminate(&rows[..symbols], code.k);
         for t in lost.clone() {
             if patterns[..code.k].iter().any(|&pattern| odd(pattern, code.rows[t])) {
                 return 999;
@@ -367,13 +406,7 @@ mod simple {
         }
         let (mut steps, mut sources) = (0, 0u64);
         for t in lost {
-            let (mut left, mut subset) = (code.rows[t], 0u64);
-            for s in (0..symbols).rev() {
-                if pivots[s] != 0 && odd(pivots[s], left) {
-                    left ^= rows[s];
-                    subset |= 1 << s;
-                }
-            }
+            let subset = subset_for(&pivots, &rows[..symbols], code.rows[t]);
             sources |= subset;
             let mut kind = 1;
             for s in (0..symbols).filter(|s| subset >> s & 1 == 1) {
@@ -389,6 +422,55 @@ mod simple {
         let head = [6, 1, code.n as u8, code.r as u8, code.k as u8, disk as u8, reads, (steps % 256) as u8, (steps / 256) as u8];
         buffer[..9].copy_from_slice(&head);
         1000 + reads as u64
+    }
+
+    /// The test by the same equations, with one pass over the bytes for each symbol of an equation.
+    #[inline(never)]
+    pub fn test(sheet: &[u8], disks: &[u8], size: usize, stripe: &[u8]) -> u64 {
+        let code = match read(sheet) {
+            Ok(code) => code,
+            Err(number) => return number,
+        };
+        if disks.iter().any(|&disk| disk as usize >= code.n) {
+            return 7;
+        }
+        if disks.is_empty() || disks.len() > code.n || disks.windows(2).any(|pair| pair[0] >= pair[1]) {
+            return 24;
+        }
+        if size == 0 || size > 65536 {
+            return 31;
+        }
+        let symbols = code.n * code.r;
+        if stripe.len() != symbols * size {
+            return 32;
+        }
+        let mut rows = code.rows;
+        for &disk in disks {
+            rows[disk as usize * code.r..(disk as usize + 1) * code.r].fill(0);
+        }
+        let (pivots, _) = eliminate(&rows[..symbols], code.k);
+        let (mut sum, mut lowest) = (vec![0u8; size], size);
+        for s in (0..symbols).filter(|s| !disks.contains(&((s / code.r) as u8))) {
+            // Of a row with a pivot the equation is empty.
+            if pivots[s] != 0 {
+                continue;
+            }
+            let equation = subset_for(&pivots, &rows[..symbols], rows[s]) ^ 1 << s;
+            sum.fill(0);
+            for t in (0..symbols).filter(|t| equation >> t & 1 == 1) {
+                for (a, b) in sum.iter_mut().zip(&stripe[t * size..(t + 1) * size]) {
+                    *a ^= *b;
+                }
+            }
+            if super::union_of(&sum[..lowest]) != 0 {
+                lowest = sum.iter().position(|&byte| byte != 0).unwrap_or(lowest);
+            }
+        }
+        if lowest < size {
+            2000 + lowest as u64
+        } else {
+            1000
+        }
     }
 
     #[inline(never)]
@@ -417,6 +499,12 @@ mod simple {
         }
         0
     }
+}
+
+/// Bytes read once: their union.
+#[inline(never)]
+fn union_of(bytes: &[u8]) -> u8 {
+    bytes.iter().fold(0, |all, byte| all | byte)
 }
 
 /// The rows of Liberation with k data disks.
@@ -587,14 +675,46 @@ fn rebuilding(sheet: &[u8], plan: &[u8], size: usize) -> f64 {
     ratio
 }
 
+/// The lines of the test of survivors, with one disk lost, and its ratio to simple Rust.
+fn testing(sheet: &[u8], lost: u8, size: usize) -> f64 {
+    let contents: Vec<u8> = (0..25 * size).map(|i| (i * 13 + i / 241) as u8).collect();
+    let mut stripe = vec![0u8; 35 * size];
+    assert_eq!(simple::encode(sheet, size, &contents, &mut stripe), 0);
+    let strip = lost as usize * 5 * size..(lost as usize + 1) * 5 * size;
+    stripe[strip.clone()].fill(0xdb);
+    let mut damaged = stripe.clone();
+    damaged[15 * size + size / 2] ^= 1;
+    for (given, answer) in [(&stripe, 1000), (&damaged, 2000 + size as u64 / 2)] {
+        assert_eq!((proved::test(sheet, &[lost], size, given), simple::test(sheet, &[lost], size, given)), (answer, answer));
+    }
+    let calls = (2_000_000 / (size * 40 + 3000)).max(1);
+    let what = format!("test, disk {lost} lost, L {size}");
+    let against = |other: &str, work: &mut dyn FnMut() -> u64| row(&what, other, interleaved(calls, || proved::test(sheet, &[lost], size, &stripe), work));
+    let ratio = against("simple Rust", &mut || simple::test(sheet, &[lost], size, &stripe));
+    if lost == 6 {
+        let mut again = vec![0u8; 35 * size];
+        against("encoding and comparing", &mut || {
+            let refused = proved::encode(sheet, size, &stripe[..25 * size], &mut again);
+            refused + u64::from(again[..strip.start] != stripe[..strip.start])
+        });
+    }
+    against("reading the survivors once", &mut || (union_of(&stripe[..strip.start]) | union_of(&stripe[strip.end..])).into());
+    ratio
+}
+
 /// The loops over bytes are fast only where the compiler makes one of its own for each number of sources. It says nothing where it doesn't, so
-/// this does: the lines at L 4,096, and whether both are within their bounds.
+/// this does: the lines at L 4,096, and whether all are within their bounds.
 fn check(sheet: &[u8], plan: &[u8]) -> bool {
-    let (encode, rebuild) = (encoding(sheet, 4096), rebuilding(sheet, plan, 4096));
-    for (what, ratio, bound) in [("encode", encode, 0.9), ("rebuild", rebuild, 0.8)] {
+    let bounds = [
+        ("encode", encoding(sheet, 4096), 0.9),
+        ("rebuild", rebuilding(sheet, plan, 4096), 0.8),
+        ("test, disk 0 lost,", testing(sheet, 0, 4096), 0.9),
+        ("test, disk 6 lost,", testing(sheet, 6, 4096), 0.9),
+    ];
+    for (what, ratio, bound) in bounds {
         println!("{what} at L 4096 takes {ratio:.2} of simple Rust, {} {bound}", if ratio <= bound { "within" } else { "ABOVE" });
     }
-    encode <= 0.9 && rebuild <= 0.8
+    bounds.iter().all(|(_, ratio, bound)| ratio <= bound)
 }
 
 fn main() {
@@ -616,5 +736,8 @@ fn main() {
     row("check, 28 steps", "simple Rust", times);
     for size in sizes {
         rebuilding(&sheet, &plan, size);
+    }
+    for (lost, size) in [0, 6].into_iter().flat_map(|lost| sizes.map(|size| (lost, size))) {
+        testing(&sheet, lost, size);
     }
 }
