@@ -3,6 +3,7 @@ use mathlib.Core.Path.{_≡_, refl, sym, ap, _∙_}
 use mathlib.Core.Bool.{Bool, true, false, cond, not, true≢false}
 use mathlib.Core.List.{_∷_}
 use Prim.Native.Nat.{ℕ, zero, suc, _+_, _/_, _^_, _≤_, _<_}
+use native.Mathlib.Decide.{decLe}
 use native.Mathlib.Nat.{add-zero, zero-add, div-one}
 use native.Mathlib.Numerals.{add-one}
 use native.Mathlib.Omega.{arith}
@@ -60,6 +61,38 @@ countFrom-within part whole within start (suc count) =
     by-first later true false h = absurd (true≢false (sym (h refl)))
     by-first later false true h = omega arith
     by-first later false false h = omega arith
+
+-- Two parts that have nothing in common count no more than the whole
+pub countFrom-apart : (a b whole : ℕ → Bool) → ((i : ℕ) → a i ≡ true → whole i ≡ true) → ((i : ℕ) → b i ≡ true → whole i ≡ true) → ((i : ℕ) → a i ≡ true → b i ≡ false)
+    → (start count : ℕ) → countFrom a start count + countFrom b start count ≤ countFrom whole start count
+unfolding countFrom
+countFrom-apart a b whole within-a within-b apart start zero = omega arith
+countFrom-apart a b whole within-a within-b apart start (suc count) =
+    by-first (countFrom-apart a b whole within-a within-b apart (suc start) count) (a start) (b start) (whole start) (within-a start) (within-b start) (apart start)
+  where
+    by-first : countFrom a (suc start) count + countFrom b (suc start) count ≤ countFrom whole (suc start) count → (x y z : Bool) → (x ≡ true → z ≡ true) → (y ≡ true → z ≡ true)
+        → (x ≡ true → y ≡ false) → cond x 1 0 + countFrom a (suc start) count + (cond y 1 0 + countFrom b (suc start) count) ≤ cond z 1 0 + countFrom whole (suc start) count
+    by-first later true true z f g h = absurd (true≢false (h refl))
+    by-first later true false true f g h = omega arith
+    by-first later true false false f g h = absurd (true≢false (sym (f refl)))
+    by-first later false true true f g h = omega arith
+    by-first later false true false f g h = absurd (true≢false (sym (g refl)))
+    by-first later false false true f g h = omega arith
+    by-first later false false false f g h = omega arith
+
+-- Where one passes, one is counted
+pub countFrom-some : (test : ℕ → Bool) (start count s : ℕ) → start ≤ s → s < start + count → test s ≡ true → 1 ≤ countFrom test start count
+unfolding countFrom
+countFrom-some test start zero s a b passes = absurd (omega arith)
+countFrom-some test start (suc count) s a b passes =
+    by-place (decLe s start) (test start) refl (λ above. countFrom-some test (suc start) count s above (omega arith) passes)
+  where
+    by-place : Dec (s ≤ start) → (c : Bool) → test start ≡ c → (suc start ≤ s → 1 ≤ countFrom test (suc start) count) → 1 ≤ cond c 1 0 + countFrom test (suc start) count
+    by-place d true e later = omega arith
+    by-place (yes here) false e later =
+        let same : s ≡ start = omega arith in
+        absurd (true≢false (sym passes ∙ ap test same ∙ e))
+    by-place (no above) false e later = omega (arith, later (omega arith))
 
 -- Of two tests of which one is passed and one is not, both count all
 pub countFrom-halves : (some others : ℕ → Bool) (start count : ℕ) → ((i : ℕ) → i < start + count → others i ≡ not (some i))

@@ -1,0 +1,4 @@
+pub mod ImageLaws
+pub mod SearchLaws
+pub mod LoopLaws
+pub mod BoundLaws

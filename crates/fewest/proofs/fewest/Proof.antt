@@ -1,0 +1,73 @@
+-- `fewest::fewest` meets its contract: the search from the columns, with nothing taken and all known symbols allowed. Assumes nothing.
+use mathlib.Core.Path.{_≡_, sym, ap, ap₂, _∙_, subst}
+use mathlib.Core.Bool.{Bool}
+use Prim.Native.Nat.{ℕ, _^_, _<_}
+use native.Mathlib.Omega.{arith}
+use lib.Bits.{bitAnd}
+use lib.ListN.{take}
+use borrow.Author.Needs.{needs}
+use Rattle.bits.specs.BitSets.{has}
+use Rattle.bits.specs.Numerals.{setWidth, numeral, numerals}
+use Rattle.fewest.specs.InnerFewest.{Images}
+use Rattle.fewest.proofs.LoopLaws.{columns-images}
+use Rattle.fewest.proofs.SearchLaws.{cut-small, cut-same, fewest-of-array}
+use Rattle.fewest.proofs.fewest.Statement.{statement}
+use Rattle.fewest.proofs.fewest.Tie as tie
+
+below-requires : tie.Need-below-requires
+below-requires c κs = search needs
+
+common-requires : tie.Need-common-requires
+common-requires c κs = search needs
+
+common-requires-2 : tie.Need-common-requires-2
+common-requires-2 c κs = search needs
+
+columns-requires : tie.Need-columns-requires
+columns-requires c κs = search needs
+
+empty-requires : tie.Need-empty-requires
+empty-requires c κs = search needs
+
+search-requires : tie.Need-search-requires
+search-requires c κs =
+    let start = c .before .before .before .before .before in
+    let args = start .args in
+    let array = c .before .before .before .before .below .ensures in
+    let survivors = c .before .before .before .common .ensures ∙ ap (bitAnd (numeral (args .known))) array in
+    let targets = c .before .before .common2 .ensures ∙ ap (bitAnd (numeral (args .wanted))) array in
+    let survivors-small = subst (λ (x : ℕ). x < 2 ^ setWidth) (sym survivors) (cut-small (numeral (args .known)) (args .symbols) (start .pre .0)) in (
+      start .pre .1,
+      subst (λ (x : ℕ). x < 2 ^ setWidth) (sym targets) (cut-small (numeral (args .wanted)) (args .symbols) (start .pre .0)),
+      omega (arith, c .empty .ensures),
+      survivors-small,
+      survivors-small,
+    )
+
+returns : tie.Need-returns
+returns c =
+    let start = c .before .before .before .before .before .before .before in
+    let args = start .args in
+    let rows = take (args .symbols) (numerals (args .rows)) in
+    let array = c .before .before .before .before .before .before .below .ensures in
+    let survivors = c .before .before .before .before .before .common .ensures ∙ ap (bitAnd (numeral (args .known))) array in
+    let targets = c .before .before .before .before .common2 .ensures ∙ ap (bitAnd (numeral (args .wanted))) array in
+    fewest-of-array rows (numeral (args .known)) (numeral (args .wanted)) _ _ _ _ (args .branchings) _ (c .before .before .empty .ensures)
+    (ap has survivors ∙ cut-same (numeral (args .known)) (args .symbols) (start .pre .0) (start .pre .3))
+    (ap has targets ∙ cut-same (numeral (args .wanted)) (args .symbols) (start .pre .0) (start .pre .4))
+    (c .before .search .ensures .1 .1 .0)
+    (c .before .search .ensures .1 .1 .1 rows
+    (subst (λ (x : ℕ). Images rows (has x) (args .data-symbols) (numerals (c .before .before .before .columns .result))) (sym (c .before .before .empty .ensures))
+    (columns-images rows (args .data-symbols) (numerals (c .before .before .before .columns .result)) (start .pre .2) (c .before .before .before .columns .ensures))))
+
+pub fewest-spec : {M : Type 1} → statement M
+fewest-spec =
+    tie.close
+    (tie.spec
+    below-requires
+    common-requires
+    common-requires-2
+    columns-requires
+    empty-requires
+    search-requires
+    returns)
