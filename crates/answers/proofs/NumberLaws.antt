@@ -36,6 +36,7 @@ use Rattle.refusals.specs.declared.Refusal.the-variants.{
   NotInFamily,
   SheetBufferTooShort,
   NoSuchSymbol,
+  TooManySurvivors,
 }
 
 -- Line by line of the table
@@ -70,6 +71,7 @@ not-numbered-0 SpareStripLength = refl
 not-numbered-0 NotInFamily = refl
 not-numbered-0 SheetBufferTooShort = refl
 not-numbered-0 NoSuchSymbol = refl
+not-numbered-0 (TooManySurvivors survivors) = refl
 
 -- No refusal has number 0
 pub number-not-0 : (refusal : Refusal) → numbered refusal .number ≡ 0 → ⊥

@@ -182,6 +182,12 @@ enum-told-20 c = c .match .keys30
 at-requires-30 : tie.Need-at-requires-30
 at-requires-30 c κs = tt
 
+enum-known-self-11 : tie.Need-enum-known-self-11
+enum-known-self-11 c = c .match .keys31
+
+at-requires-31 : tie.Need-at-requires-31
+at-requires-31 c κs = tt
+
 returns : tie.Need-returns
 returns c = rw (c .before .enum-told .given .1) (c .at .ensures)
 
@@ -272,6 +278,9 @@ returns-29 c = rw (c .before .enum-told19 .given .1) (c .at29 .ensures)
 returns-30 : tie.Need-returns-30
 returns-30 c = rw (c .before .enum-told20 .given .1) (c .at30 .ensures)
 
+returns-31 : tie.Need-returns-31
+returns-31 c = rw (c .before .before .self11 .given .1) (c .at31 .ensures)
+
 pub in-table-spec : {M : Type 1} → statement M
 in-table-spec =
     tie.close
@@ -336,6 +345,8 @@ in-table-spec =
     at-requires-29
     enum-told-20
     at-requires-30
+    enum-known-self-11
+    at-requires-31
     returns
     returns-2
     returns-3
@@ -365,4 +376,5 @@ in-table-spec =
     returns-27
     returns-28
     returns-29
-    returns-30)
+    returns-30
+    returns-31)

@@ -1,0 +1,2 @@
+pub mod FewestReads
+pub mod FewestCall
