@@ -1,4 +1,5 @@
 mod ComputedTests
 mod OnlyPatternLaws
 mod SurvivorCases
+mod FewestCases
 pub mod CaseProofs

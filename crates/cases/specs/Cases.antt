@@ -9,10 +9,11 @@ use Rattle.family_codes.specs.Families.{familyCode}
 use Rattle.family_codes.specs.declared.Family.{Family}
 use Rattle.family_codes.specs.declared.Family.the-variants.{Liberation, RowDiagonal}
 use Rattle.bits.specs.BitSets.{with}
+use Rattle.fewest_planner.specs.FewestCall.{PromisedFewest}
 use Rattle.desk_answers.specs.DeskAnswers.{deskText}
 use Rattle.planning.specs.Demand3.{CannotBeRebuilt, IsPlan, Promised}
 use Rattle.plan_requests.specs.PlanRequests.{Asked, wholeDisk, listedOn, listedOnSet, leastBuffer}
-use Rattle.planning.specs.Planning.{Found, APatterns}
+use Rattle.planning.specs.Planning.{Found, APlan, APatterns}
 use Rattle.rebuild.specs.Rebuild.{stripeAfter}
 use Rattle.refusals.specs.Refusals.{_at_}
 use Rattle.refusals.specs.Orders.{Answer, Gives, Refuses}
@@ -108,6 +109,8 @@ pub data Case : Type 0 where
   plans : List ℕ → Asked → Answer Found → Case
   -- Planning for a code sheet can only answer a plan
   plans-some : List ℕ → Asked → Case
+  -- Planning with the fewest reads can only answer a plan with so many
+  plans-with-reads : List ℕ → Asked → ℕ → Case
   -- The tester for survivors, of a stripe of symbols of so many bytes without a set of disks, can only answer so
   tests : List ℕ → List ℕ → ℕ → List ℕ → Answer YesOrNo → Case
 
@@ -115,6 +118,12 @@ pub data Case : Type 0 where
 abbrev pub From : List ℕ → ℕ → List ℕ → Type 0
 From rows start [] = Unit {0}
 From rows start (row ∷ more) = (getD rows start 0 ≡ row) × From rows (suc start) more
+
+-- The answer is a plan with this read count
+abbrev pub ReadsJust : ℕ → Answer Found → Type 0
+ReadsJust count (Gives (APlan planLength reads)) = reads ≡ count
+ReadsJust count (Gives (APatterns patterns)) = ⊥
+ReadsJust count (Refuses refusal) = ⊥
 
 abbrev pub Right : Case → Type 0
 Right (encodes codeSheet L contents stripe) =
@@ -128,6 +137,8 @@ Right (plans codeSheet asked answer) =
     (before after : List ℕ) (given : Answer Found) → leastBuffer (asked .edition) ≤ length before → Promised codeSheet asked before after given → given ≡ answer
 Right (plans-some codeSheet asked) =
     (before after : List ℕ) (given : Answer Found) → leastBuffer (asked .edition) ≤ length before → Promised codeSheet asked before after given → IsPlan given
+Right (plans-with-reads codeSheet asked count) =
+    (before after : List ℕ) (given : Answer Found) → leastBuffer (asked .edition) ≤ length before → PromisedFewest codeSheet asked before after given → ReadsJust count given
 Right (tests codeSheet disks L stripe answer) = (given : Answer YesOrNo) → TestPromised codeSheet disks L stripe given → given ≡ answer
 
 abbrev pub AllRight : List Case → Type 0
@@ -300,5 +311,12 @@ survivorCases =
     ∷ tests square (alone 0) 1 (0x11 ∷ 0x22 ∷ 0x44 ∷ 0x88 ∷ 0x54 ∷ 0xAA ∷ 0x99 ∷ 0x66 ∷ []) (Gives (No 0))
     ∷ []
 
+-- Document 02, §13: the fewest reads of the square code
+abbrev pub fewestCases : List Case
+fewestCases =
+    -- for disk 0 the count is 3
+    plans-with-reads square (listedOnSet (0 ∷ []) []) 3
+    ∷ []
+
 unfoldable pub table : List Case
-table = rulesCases ++ wantedCases ++ ontoItselfCases ++ setCases ++ goneCases ++ survivorCases
+table = rulesCases ++ wantedCases ++ ontoItselfCases ++ setCases ++ goneCases ++ survivorCases ++ fewestCases
