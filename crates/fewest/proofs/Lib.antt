@@ -2,3 +2,4 @@ pub mod ImageLaws
 pub mod SearchLaws
 pub mod LoopLaws
 pub mod BoundLaws
+pub mod FirstImageLaws

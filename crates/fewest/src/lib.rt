@@ -12,8 +12,9 @@ ghost use Rattle.bits.specs.BitSets.{has};
 ghost use Rattle.bits.specs.Numerals.{setWidth, numeral, numerals};
 ghost use Rattle.gf2.specs.InnerElimination.{reducePattern};
 ghost use Rattle.gf2.specs.Selection.{Below};
+ghost use Rattle.gf2.specs.InnerSubsetPlans.{survivors};
 ghost use Rattle.gf2.specs.Plans.{PlacesBelow};
-ghost use Rattle.fewest.specs.InnerFewest.{Avoids, Fewest, Images, IsColumn, KeepsImages, Meets, MeetsEach, NeededBesides, OfWidth, Searched, StillNeeded, size};
+ghost use Rattle.fewest.specs.InnerFewest.{Avoids, Fewest, Images, IsColumn, KeepsImages, Meets, MeetsEach, NeededBesides, OfWidth, Searched, StillNeeded, either, size};
 use bits::BitSet;
 use bits::BitSets;
 use bits::SET_WIDTH;
@@ -28,6 +29,9 @@ use bits::lowest_from;
 use bits::sum;
 use bits::union;
 use bits::with;
+use solve::SetList;
+use solve::set_lists::nonempty_sets;
+use solve::surviving_rows;
 
 // The symbols whose rows have a data symbol's bit: on these the unit pattern of that bit shows.
 fn column(rows: BitSets, symbols: usize, bit: usize) -> BitSet
@@ -106,7 +110,8 @@ fn reduce(images: BitSets, total: usize, pivot: BitSet, element: usize) -> BitSe
 // The images added to each other until each has a symbol of its own among those that may be taken, where that can be: sums of two are then small.
 fn spread(images: BitSets, total: usize, allowed: BitSet) -> BitSets
     requires { ⌜ total ≤ setWidth ⌝ }
-    ensures { λ r. ⌜ KeepsImages total (numerals images) (numerals r) ⌝ }
+    ensures kept { λ r. ⌜ KeepsImages total (numerals images) (numerals r) ⌝ }
+    ensures held { λ r. ⌜ length (numerals r) ≡ setWidth ⌝ }
 {
     let mut apart = images;
     let mut i = 0;
@@ -114,9 +119,15 @@ fn spread(images: BitSets, total: usize, allowed: BitSet) -> BitSets
         let image = apart[i];
         let own = lowest_from(common(image, allowed), 0);
         if own < SET_WIDTH {
-            let mut next = reduce(apart, total, image, own);
-            next[i] = image;
-            apart = next;
+            let mut j = 0;
+            while j < total {
+                let other = apart[j];
+                if has(other, own) {
+                    apart[j] = sum(other, image);
+                }
+                j += 1;
+            }
+            apart[i] = image;
         }
         i += 1;
     }
@@ -222,6 +233,25 @@ fn symbols_needed(images: BitSets, total: usize, wanted: BitSet, allowed: BitSet
     all.found
 }
 
+// The images that the search begins with: those of the patterns' parts on the known and the wanted symbols, spread over the known ones. Empty ones are left
+// out, so that there are no more than these symbols' rows have rank.
+fn first_images(
+    rows: BitSets,
+    symbols: usize,
+    data_symbols: usize,
+    known: BitSet,
+    wanted: BitSet,
+) -> SetList
+    requires { ⌜ (symbols ≤ setWidth) × (data_symbols ≤ setWidth) × Below data_symbols (take symbols (numerals rows)) ⌝ }
+    ensures few { λ r. ⌜ r .count ≤ setWidth ⌝ }
+    ensures images { λ r. ⌜ Images (survivors (either (numeral known) (numeral wanted)) (take symbols (numerals rows))) (has 0) (r .count) (numerals (r .sets)) ⌝ }
+{
+    let involved = surviving_rows(rows, symbols, union(known, wanted));
+    let images = columns(involved, symbols, data_symbols);
+    let apart = spread(images, data_symbols, known);
+    nonempty_sets(apart, data_symbols)
+}
+
 // What a search found, and how many branchings are left of those that it might make.
 struct Searching {
     best: BitSet,
@@ -294,10 +324,11 @@ pub fn fewest(
     let array = below(symbols);
     let survivors = common(known, array);
     let targets = common(wanted, array);
-    let images = columns(rows, symbols, data_symbols);
+    let images = first_images(rows, symbols, data_symbols, survivors, targets);
+    let sets = images.sets;
     let found = search(
-        images,
-        data_symbols,
+        sets,
+        images.count,
         targets,
         empty(),
         survivors,

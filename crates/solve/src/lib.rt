@@ -35,7 +35,7 @@ pub struct Elimination {
 }
 
 // The rows of the known symbols, and 0 for the others: symbols keep their numbers.
-fn surviving_rows(rows: BitSets, symbols: usize, known: BitSet) -> BitSets
+pub fn surviving_rows(rows: BitSets, symbols: usize, known: BitSet) -> BitSets
     requires { ⌜ symbols ≤ setWidth ⌝ }
     ensures { λ r. ⌜ numerals r ≡ padded (survivors (has (numeral known)) (take symbols (numerals rows))) ⌝ }
 {

@@ -176,7 +176,7 @@ search-returns t c =
         (
           counted-none _ _,
           λ rows given.
-              searched-taken rows _ _ _ _ _ _ (c .before .before .before .before .before .spread .ensures rows _ given) (c .before .before .before .before .next-image .ensures .1 (c .before .before .before .if1 .taken))
+              searched-taken rows _ _ _ _ _ _ (c .before .before .before .before .before .spread .ensures .0 rows _ given) (c .before .before .before .before .next-image .ensures .1 (c .before .before .before .if1 .taken))
               (omega (arith, c .before .before .count .ensures ∙ count-is-size _ (pre .2), c .before .count2 .ensures ∙ count-is-size _ (pre .4), c .if2 .taken)),
         ),
       ),
@@ -215,7 +215,7 @@ search-returns-2 t c =
         (
           counted-none _ _,
           λ rows given.
-              searched-no-fewer rows _ _ _ _ _ _ (c .before .before .before .before .before .spread .ensures rows _ given) (c .before .before .before .before .next-image .ensures .1 (c .before .before .before .if1 .taken))
+              searched-no-fewer rows _ _ _ _ _ _ (c .before .before .before .before .before .spread .ensures .0 rows _ given) (c .before .before .before .before .next-image .ensures .1 (c .before .before .before .if1 .taken))
               (omega (arith, c .before .before .count .ensures ∙ count-is-size _ (pre .2), c .before .count2 .ensures ∙ count-is-size _ (pre .4), c .if2 .left)),
         ),
       ),
@@ -366,7 +366,7 @@ search-returns-3 t c =
         (
           counted-none _ _,
           λ rows given.
-              searched-nothing-left rows _ _ _ _ _ _ (spread .ensures rows _ given) at below bad
+              searched-nothing-left rows _ _ _ _ _ _ (spread .ensures .0 rows _ given) at below bad
               (nothing-shared (numerals (spread .result)) (numeral (args .allowed)) at _ _ (lowest .result) (lowest .ensures) (shared .ensures) image (pre .3) (c .if3 .taken)),
         ),
       ),
@@ -491,7 +491,7 @@ search-returns-4 t c =
         (
           counted-none _ _,
           λ rows given.
-              searched-no-room rows _ _ _ _ _ _ (spread .ensures rows _ given) at below bad (pre .3) (pre .2)
+              searched-no-room rows _ _ _ _ _ _ (spread .ensures .0 rows _ given) at below bad (pre .3) (pre .2)
               (omega (arith, c .before .before .count3 .ensures ∙ count-is-size _ (pre .4), c .before .count4 .ensures ∙ count-is-size _ (pre .2), c .if4 .taken)),
         ),
       ),
@@ -634,7 +634,7 @@ search-returns-5 t c =
         (
           counted-none _ _,
           λ rows given.
-              searched-too-many rows _ _ _ _ (c .before .symbols-needed .result) (λ other. c .before .symbols-needed .ensures rows _ other (c .before .before .before .before .before .before .before .before .before .before .before .before .before .spread .ensures rows _ given))
+              searched-too-many rows _ _ _ _ (c .before .symbols-needed .result) (λ other. c .before .symbols-needed .ensures rows _ other (c .before .before .before .before .before .before .before .before .before .before .before .before .before .spread .ensures .0 rows _ given))
               (omega (arith, c .before .before .before .count5 .ensures ∙ count-is-size _ (pre .4), c .before .before .count6 .ensures ∙ count-is-size _ (pre .2), c .if5 .taken)),
         ),
       ),
@@ -977,7 +977,7 @@ search-returns-7 t c =
               (subst (λ (x : ℕ). args .branchings - 1 < c .before .search .result .branchings + 2 ^ size (has x)) left (c .before .search .ensures .1 .1 .0))
               (subst (λ (x : ℕ). c .before .search .result .branchings < c .search2 .result .branchings + 2 ^ size (has x)) left (c .search2 .ensures .1 .1 .0)),
           λ rows given.
-              searched-step (numerals (spread .result)) (numeral (args .allowed)) at _ _ (lowest .result) (lowest .ensures) (shared .ensures) image rows (numeral (args .wanted)) (numeral (args .taken)) (numeral (args .best)) (args .total) _ (spread .ensures rows _ given) below in-width
+              searched-step (numerals (spread .result)) (numeral (args .allowed)) at _ _ (lowest .result) (lowest .ensures) (shared .ensures) image rows (numeral (args .wanted)) (numeral (args .taken)) (numeral (args .best)) (args .total) _ (spread .ensures .0 rows _ given) below in-width
               (c .before .before .before .reduce .ensures .0) (c .search2 .ensures .1 .0) (c .before .before .with2 .ensures) left (c .before .search .ensures .1 .1 .1 rows) (c .search2 .ensures .1 .1 .1 rows),
         ),
       ),
