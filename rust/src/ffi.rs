@@ -142,6 +142,16 @@ extern "C" {
         buffer: BytesMut,
         buffer_length: usize,
     ) -> Planned;
+    fn navorzim_plan_fewest(
+        sheet: Bytes,
+        sheet_length: usize,
+        disks: Bytes,
+        disks_length: usize,
+        wanted: Bytes,
+        wanted_length: usize,
+        buffer: BytesMut,
+        buffer_length: usize,
+    ) -> Planned;
     fn navorzim_lost_pattern(
         sheet: Bytes,
         sheet_length: usize,
@@ -288,6 +298,21 @@ pub fn plan_wanted(sheet: &[u8], disk: u64, wanted: &[u8], buffer: &mut [u8]) ->
 pub fn plan_disks(sheet: &[u8], disks: &[u8], wanted: &[u8], buffer: &mut [u8]) -> Planned {
     unsafe {
         navorzim_plan_disks(
+            sheet.as_ptr(),
+            sheet.len(),
+            disks.as_ptr(),
+            disks.len(),
+            wanted.as_ptr(),
+            wanted.len(),
+            buffer.as_mut_ptr(),
+            buffer.len(),
+        )
+    }
+}
+
+pub fn plan_fewest(sheet: &[u8], disks: &[u8], wanted: &[u8], buffer: &mut [u8]) -> Planned {
+    unsafe {
+        navorzim_plan_fewest(
             sheet.as_ptr(),
             sheet.len(),
             disks.as_ptr(),

@@ -28,11 +28,13 @@
 //! ```
 //!
 //! Where one record is enough, [`plan_wanted`] plans for some of the lost symbols. [`check`] and [`rebuild`] take its plan like any
-//! other. [`plan_into`], [`plan_wanted_into`] and [`plan_disks_into`] write to a buffer of the caller's; where there is a plan they
-//! allocate nothing.
+//! other. [`plan_into`], [`plan_wanted_into`], [`plan_disks_into`] and [`plan_fewest_into`] write to a buffer of the caller's; where
+//! there is a plan they allocate nothing.
 //!
 //! Where more than one disk is lost, [`plan_disks`], [`check_disks`] and [`rebuild_disks`] take a list of disks. The calls that take
 //! one disk mean the list of that disk.
+//!
+//! Where at most 16 symbols survive, [`plan_fewest`] plans with the fewest reads that there can be.
 //!
 //! Where no plan can be, planning answers how much is gone, as [`Pattern`]s.
 //!
@@ -54,7 +56,7 @@ pub use survivors::{equations, test_survivors, Equation, Soundness};
 pub const LONGEST_CODE_SHEET: usize = 518;
 
 /// The length of the longest plan sheet. A buffer of this length is enough for every plan: [`plan_into`] asks for 3,081 bytes or
-/// more, [`plan_wanted_into`] for 3,114 or more, [`plan_disks_into`] for as many as this or more.
+/// more, [`plan_wanted_into`] for 3,114 or more, [`plan_disks_into`] and [`plan_fewest_into`] for as many as this or more.
 pub const PLAN_BUFFER: usize = 3210;
 
 /// A family of codes that can be asked for by name.
@@ -190,7 +192,7 @@ pub fn check_disks(sheet: &[u8], disks: &[u8], plan: &[u8]) -> Result<u64, Refus
     unless_plan_refused(plan, checked.number, checked.place, checked.reads)
 }
 
-/// What [`plan_into`], [`plan_wanted_into`] and [`plan_disks_into`] answer.
+/// What [`plan_into`], [`plan_wanted_into`], [`plan_disks_into`] and [`plan_fewest_into`] answer.
 #[derive(Clone, Debug, PartialEq, Eq)]
 pub enum Planned {
     /// A plan sheet stands at the front of the buffer.
@@ -207,7 +209,7 @@ pub enum Planned {
     },
 }
 
-/// What [`plan`], [`plan_wanted`] and [`plan_disks`] answer.
+/// What [`plan`], [`plan_wanted`], [`plan_disks`] and [`plan_fewest`] answer.
 #[derive(Clone, Debug, PartialEq, Eq)]
 pub enum Planning {
     /// A plan.
@@ -336,6 +338,49 @@ pub fn plan_disks(sheet: &[u8], disks: &[u8], wanted: &[u8]) -> Result<Planning,
 /// [`Refusal::PlanBufferTooShort`].
 pub fn plan_disks_into(sheet: &[u8], disks: &[u8], wanted: &[u8], buffer: &mut [u8]) -> Result<Planned, Refusal> {
     planned(ffi::plan_disks(sheet, disks, wanted, buffer), sheet, disks, wanted)
+}
+
+/// Plans as [`plan_disks`] does, with the fewest reads: no plan that brings these symbols back, of any edition and of any length, reads
+/// fewer surviving symbols. It is for small arrays, of which at most 16 symbols survive.
+///
+/// Where no plan can be, the answer is that of [`plan_disks`].
+///
+/// # Errors
+///
+/// In this order: the code sheet's (1 to 6), [`Refusal::NoSuchDisk`], [`Refusal::BadDiskList`], [`Refusal::BadWantedList`],
+/// [`Refusal::TooManySurvivors`], which comes whether or not there is a plan.
+///
+/// ```
+/// use navorzim::{check_disks, plan_disks, plan_fewest, Family, Planning, Refusal};
+///
+/// // The square code: four disks of two symbols, d0 d1, d2 d3, d0+d2 d1+d3, d0+d3 d1+d2.
+/// let rows = [1, 2, 4, 8, 5, 10, 9, 6];
+/// let rows = rows.into_iter().flat_map(u64::to_le_bytes);
+/// let square: Vec<u8> = [4, 1, 4, 2, 4, 8].into_iter().chain(rows).collect();
+///
+/// // Disk 0 is lost. d0 is d2 + (d0+d2), d1 is d2 + (d1+d2): three reads are enough, and two are not.
+/// let Planning::Plan { plan, reads } = plan_fewest(&square, &[0], &[])? else { panic!("one disk has a plan") };
+/// assert_eq!((reads, check_disks(&square, &[0], &plan)), (3, Ok(3)));
+/// let Planning::Plan { reads: usual, .. } = plan_disks(&square, &[0], &[])? else { panic!("one disk has a plan") };
+/// assert!(usual >= reads);
+///
+/// // Of seven disks of five symbols too many survive.
+/// let large = Family::Liberation { w: 5, data_disks: 5 }.sheet()?;
+/// assert_eq!(plan_fewest(&large, &[0], &[]), Err(Refusal::TooManySurvivors { survivors: 30 }));
+/// # Ok::<(), Refusal>(())
+/// ```
+pub fn plan_fewest(sheet: &[u8], disks: &[u8], wanted: &[u8]) -> Result<Planning, Refusal> {
+    owned(|buffer| plan_fewest_into(sheet, disks, wanted, buffer))
+}
+
+/// Plans with the fewest reads, as [`plan_fewest`] does, into a buffer of [`PLAN_BUFFER`] bytes or more. The bytes after the plan stay.
+///
+/// # Errors
+///
+/// In this order: the code sheet's (1 to 6), [`Refusal::NoSuchDisk`], [`Refusal::BadDiskList`], [`Refusal::BadWantedList`],
+/// [`Refusal::PlanBufferTooShort`], [`Refusal::TooManySurvivors`].
+pub fn plan_fewest_into(sheet: &[u8], disks: &[u8], wanted: &[u8], buffer: &mut [u8]) -> Result<Planned, Refusal> {
+    planned(ffi::plan_fewest(sheet, disks, wanted, buffer), sheet, disks, wanted)
 }
 
 /// The list of one disk. A disk that a byte can't hold has been refused before it is asked about.

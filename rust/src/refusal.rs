@@ -147,6 +147,12 @@ pub enum Refusal {
     SheetBufferTooShort,
     /// Refusal 38 is given when the asked symbol isn't below N. Its place is 0.
     NoSuchSymbol,
+    /// Refusal 41 is given when the fewest reads are asked for and more than 16 symbols survive, whether or not there is a plan. Its
+    /// place is their number.
+    TooManySurvivors {
+        /// How many symbols survive.
+        survivors: u64,
+    },
     /// A number that the table does not have is kept as it came, with its place. The library that this crate builds and links never
     /// gives one; another library's refusal would still be a refusal, and never taken for a listed one.
     Unlisted {
@@ -194,6 +200,7 @@ impl Refusal {
             36 => NotInFamily,
             37 => SheetBufferTooShort,
             38 => NoSuchSymbol,
+            41 => TooManySurvivors { survivors: place },
             _ => Unlisted { number, place },
         })
     }
@@ -232,6 +239,7 @@ impl Refusal {
             NotInFamily => 36,
             SheetBufferTooShort => 37,
             NoSuchSymbol => 38,
+            TooManySurvivors { .. } => 41,
             Unlisted { number, .. } => *number,
         }
     }
@@ -249,6 +257,7 @@ impl Refusal {
             EndsWrong { wanted, data_symbol } => wanted.place() * 64 + data_symbol,
             WrongReadCount { true_count } => true_count,
             BadWantedList { position } | BadDiskList { position } => position,
+            TooManySurvivors { survivors } => survivors,
             Unlisted { place, .. } => place,
             CodeSheetTooShort | CodeSheetTooLong | CodeSheetCount | CodeSheetEdition | CodeBeyondLimit | NoSuchDisk => {
                 0
@@ -284,6 +293,9 @@ impl fmt::Display for Refusal {
                 f.write_str("the list of failed disks is empty or has more entries than there are disks")
             }
             BadDiskList { position } => write!(f, "entry {position} of the list of failed disks doesn't rise"),
+            TooManySurvivors { survivors } => {
+                write!(f, "{survivors} symbols survive, and the fewest reads are worked out for 16 at most")
+            }
             Unlisted { number, place } => write!(f, "refusal {number} at {place}, which has no name here"),
             placeless => f.write_str(placeless.sentence()),
         }
@@ -322,7 +334,7 @@ impl Refusal {
             StrayBit { .. } | MalformedStep { .. } | TargetNotWanted { .. } | UnfilledPlaceUsed { .. } => "",
             StepOntoItself { .. } => "",
             NeverFilled { .. } | EndsWrong { .. } | WrongReadCount { .. } => "",
-            BadWantedList { .. } | BadDiskList { .. } | Unlisted { .. } => "",
+            BadWantedList { .. } | BadDiskList { .. } | TooManySurvivors { .. } | Unlisted { .. } => "",
         }
     }
 }
@@ -364,7 +376,7 @@ mod tests {
     fn every_number_of_the_table_has_its_refusal() {
         let numbers = of_the_header();
         assert_eq!(numbers, of_the_rules());
-        assert_eq!((numbers.len(), numbers.iter().max()), (30, Some(&38)));
+        assert_eq!((numbers.len(), numbers.iter().max()), (31, Some(&41)));
         assert_eq!(given(0, 0), None);
         let mut sentences = HashSet::new();
         for number in numbers {
@@ -401,7 +413,7 @@ mod tests {
 
     #[test]
     fn places_are_kept() {
-        for number in [6, 17, 18, 19, 20, 21, 22, 23, 24, 25] {
+        for number in [6, 17, 18, 19, 20, 21, 22, 23, 24, 25, 41] {
             for place in [0, 1, 63, 64, 1023, 4095] {
                 for plan in [&[][..], &[6, 1], &[6, 2], &[5, 3]] {
                     let refusal = Refusal::given(number, place, WantedSymbol::naming(plan)).expect("a refusal");
@@ -409,6 +421,13 @@ mod tests {
                 }
             }
         }
+    }
+
+    #[test]
+    fn survivors_that_are_too_many_are_counted() {
+        let refusal = given(41, 17).expect("a refusal");
+        assert_eq!(refusal, Refusal::TooManySurvivors { survivors: 17 });
+        assert_eq!(refusal.to_string(), "17 symbols survive, and the fewest reads are worked out for 16 at most");
     }
 
     #[test]

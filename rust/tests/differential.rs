@@ -3,7 +3,7 @@
 mod model;
 
 use model::random::{self, calls, sheet, Random};
-use model::{told, Asked, No};
+use model::{head, steps_within_the_bound, told, Asked, No};
 use navorzim::{Family, Pattern, Planned, Planning, Refusal};
 
 /// The library's planning.
@@ -12,18 +12,6 @@ fn planned(sheet: &[u8], asked: Asked, buffer: &mut [u8]) -> Result<Planned, Ref
         Asked::Disk(disk) => navorzim::plan_into(sheet, disk, buffer),
         Asked::Wanted(disk, list) => navorzim::plan_wanted_into(sheet, disk, list, buffer),
         Asked::Disks(disks, list) => navorzim::plan_disks_into(sheet, disks, list, buffer),
-    }
-}
-
-/// A sheet's bytes up to its step count: of edition 1, of edition 2 with a list, or of edition 3 with two.
-fn head(code: &model::Code, asked: Asked, reads: u8) -> Vec<u8> {
-    let [n, r, k] = [code.disks as u8, code.height as u8, code.data as u8];
-    match asked {
-        Asked::Disk(disk) => vec![6, 1, n, r, k, disk as u8, reads],
-        Asked::Wanted(disk, list) => [&[6, 2, n, r, k, disk as u8, reads, list.len() as u8], list].concat(),
-        Asked::Disks(disks, list) => {
-            [&[5, 3, n, r, k, reads, disks.len() as u8], disks, &[list.len() as u8], list].concat()
-        }
     }
 }
 
@@ -305,20 +293,6 @@ fn judged_planning(sheet: &[u8], asked: Asked, before: &[u8]) -> Option<usize> {
             Some(bits.len())
         }
         (Ok(_), Err(no)) => panic!("refused {no:?} {}", context()),
-    }
-}
-
-/// Lost symbols times survivors; if nothing survives, at most one clear a wanted symbol.
-fn steps_within_the_bound(code: &model::Code, disks: &[u8], plan: &model::Plan) {
-    let lost = code.strips(disks).len();
-    if lost == code.symbols() {
-        assert!(
-            plan.steps.len() <= plan.wanted.len() && plan.steps.iter().all(|step| step[0] == 0),
-            "{:?}",
-            plan.steps
-        );
-    } else {
-        assert!(plan.steps.len() <= lost * (code.symbols() - lost), "{} steps", plan.steps.len());
     }
 }
 

@@ -1,6 +1,7 @@
 //! The rules once more, in plain Rust and by other means than the proved library: rows are lists of truth values, a lost place is a
 //! value that may be missing, a good list is found among all disks or all lost symbols from front to back, encoding scatters each data
-//! symbol, how much of the wanted symbols is gone is a question of ranks, and survivors are tested by data that give some of them.
+//! symbol, how much of the wanted symbols is gone is a question of ranks, survivors are tested by data that give some of them, and the
+//! fewest reads are found by trying every set of survivors.
 #![allow(dead_code)]
 use std::cmp::Ordering;
 use std::collections::HashSet;
@@ -465,6 +466,113 @@ pub fn plan_refusal(sheet: &[u8], asked: Asked, buffer_length: usize) -> Result<
         return Err((34, 0));
     }
     Ok((code, disks, wanted))
+}
+
+/// A sheet's bytes up to its step count: of edition 1, of edition 2 with a list, or of edition 3 with two.
+pub fn head(code: &Code, asked: Asked, reads: u8) -> Vec<u8> {
+    let [n, r, k] = [code.disks as u8, code.height as u8, code.data as u8];
+    match asked {
+        Asked::Disk(disk) => vec![6, 1, n, r, k, disk as u8, reads],
+        Asked::Wanted(disk, list) => [&[6, 2, n, r, k, disk as u8, reads, list.len() as u8], list].concat(),
+        Asked::Disks(disks, list) => {
+            [&[5, 3, n, r, k, reads, disks.len() as u8], disks, &[list.len() as u8], list].concat()
+        }
+    }
+}
+
+/// Lost symbols times survivors; if nothing survives, at most one clear a wanted symbol.
+pub fn steps_within_the_bound(code: &Code, disks: &[u8], plan: &Plan) {
+    let lost = code.strips(disks).len();
+    if lost == code.symbols() {
+        assert!(
+            plan.steps.len() <= plan.wanted.len() && plan.steps.iter().all(|step| step[0] == 0),
+            "{:?}",
+            plan.steps
+        );
+    } else {
+        assert!(plan.steps.len() <= lost * (code.symbols() - lost), "{} steps", plan.steps.len());
+    }
+}
+
+/// What planning with the fewest reads must refuse: what planning for a list of disks does, then 41 at the number of survivors. Otherwise
+/// the code and the wanted symbols.
+pub fn fewest_refusal(sheet: &[u8], disks: &[u8], list: &[u8], buffer_length: usize) -> Result<(Code, Vec<usize>), No> {
+    let (code, _, wanted) = plan_refusal(sheet, Asked::Disks(disks, list), buffer_length)?;
+    match code.survivors(disks).len() {
+        0..=16 => Ok((code, wanted)),
+        survivors => Err((41, survivors as u64)),
+    }
+}
+
+/// What a set of at most 16 rows spans, a row as a number: entry i is what row i adds to the rows after it, or 0.
+type Span = [u64; 16];
+
+/// What is left of a row; nothing if it lies in the span. The highest bit of each entry is in no entry before it.
+fn rest(span: &Span, row: u64) -> u64 {
+    span.iter().rev().fold(row, |rest, added| rest.min(rest ^ added))
+}
+
+/// The fewest survivors, of at most 16, that are enough for the wanted symbols: every set of survivors is tried, whether the wanted rows
+/// lie in the span of its own. None if all of them aren't enough.
+pub fn fewest(code: &Code, disks: &[u8], wanted: &[usize]) -> Option<u64> {
+    if !can_be_rebuilt(code, disks, wanted) {
+        return None;
+    }
+    let number = |s: &usize| code.rows[*s].iter().rev().fold(0, |row, &set| row << 1 | u64::from(set));
+    let survivors: Vec<u64> = code.survivors(disks).iter().map(number).collect();
+    let wanted: Vec<u64> = wanted.iter().map(number).collect();
+    let mut spans = vec![Span::default()];
+    for set in 1usize..1 << survivors.len() {
+        let lowest = set.trailing_zeros() as usize;
+        let mut span = spans[set & (set - 1)];
+        span[lowest] = rest(&span, survivors[lowest]);
+        spans.push(span);
+    }
+    let enough = |span: &Span| wanted.iter().all(|&row| rest(span, row) == 0);
+    (0u64..).zip(&spans).filter(|(_, span)| enough(span)).map(|(set, _)| set.count_ones().into()).min()
+}
+
+/// The same by trying plans of every length, where there are few data symbols and few wanted ones: of each set of survivors, whether steps
+/// that read no other lead to the wanted rows.
+pub fn fewest_by_plans(code: &Code, disks: &[u8], wanted: &[usize]) -> Option<u64> {
+    let survivors = code.survivors(disks);
+    let sets = (0..1u32 << survivors.len()).map(|set| -> Vec<usize> {
+        (0..survivors.len()).filter(|i| set >> i & 1 == 1).map(|i| survivors[i]).collect()
+    });
+    sets.filter(|read| steps_lead_there(code, read, wanted)).map(|read| read.len() as u64).min()
+}
+
+/// Whether some steps that read these survivors bring the wanted rows back: all that the wanted places can hold is reached step by step.
+fn steps_lead_there(code: &Code, read: &[usize], wanted: &[usize]) -> bool {
+    let right: Vec<Option<Row>> = wanted.iter().map(|&s| Some(code.rows[s].clone())).collect();
+    let mut reached = HashSet::from([vec![None; wanted.len()]]);
+    let mut left: Vec<Vec<Option<Row>>> = reached.iter().cloned().collect();
+    while let Some(held) = left.pop() {
+        for (target, next) in (0..wanted.len()).flat_map(|t| steps_at(code, read, &held, t).map(move |row| (t, row))) {
+            let mut after = held.clone();
+            after[target] = Some(next);
+            if reached.insert(after.clone()) {
+                left.push(after);
+            }
+        }
+    }
+    reached.contains(&right)
+}
+
+/// What one step can make of a place: a clear, a copy or an add of a survivor that is read or of another place that is filled.
+fn steps_at<'a>(
+    code: &'a Code,
+    read: &'a [usize],
+    held: &'a [Option<Row>],
+    target: usize,
+) -> impl Iterator<Item = Row> + 'a {
+    let others = held.iter().enumerate().filter(move |(other, _)| *other != target).filter_map(|(_, row)| row.as_ref());
+    let sources = read.iter().map(|&s| &code.rows[s]).chain(others);
+    let results = sources.flat_map(move |source| {
+        let add = |row: &Row| row.iter().zip(source).map(|(a, b)| a != b).collect();
+        [Some(source.clone()), held[target].as_ref().map(add)].into_iter().flatten()
+    });
+    results.chain([vec![false; code.data]])
 }
 
 /// The stripe of a pattern: data symbol t is 01 bytes where bit t is set, zero elsewhere. None if it has a bit at K or above.

@@ -73,6 +73,11 @@ pub fn code(random: &mut Random) -> Code {
         2 => 1 + random.below(6),
         _ => 1 + random.below(symbols),
     };
+    Code { disks, height, data, rows: rows(random, symbols, data) }
+}
+
+/// Rows: dense, sparse, identity rows and dense ones, of low rank, or unit rows in turn; some zero or equal.
+pub fn rows(random: &mut Random, symbols: usize, data: usize) -> Vec<Row> {
     let kind = random.below(5);
     let mut rows: Vec<Row> = (0..symbols)
         .map(|s| match kind {
@@ -91,7 +96,7 @@ pub fn code(random: &mut Random) -> Code {
             rows[s].fill(false);
         }
     }
-    Code { disks, height, data, rows }
+    rows
 }
 
 /// A family's code.
