@@ -609,6 +609,92 @@ fn the_longest_plan_for_several_disks_is_not_cut() {
     assert!(sentence.contains("more than 3210 bytes"), "{sentence}");
 }
 
+/// Plans for lost disks in the words of a line with `--fewest`, and holds the answer and the sheet to the model.
+fn fewest_is_planned(folder: &Folder, disks: &str, list: &[u8], want: &str, wanted: &[u8]) {
+    let sheet = folder.get("code");
+    let (code, symbols) = model::fewest_refusal(&sheet, list, wanted, 3210).expect("small");
+    let Some(reads) = model::fewest(&code, list, &symbols) else {
+        // No plan can be: the answer is that of planning without --fewest, and no file is written.
+        let (usual, fewest) =
+            (format!("plan code {disks} {want} -o none"), format!("plan code {disks} {want} --fewest -o none"));
+        let (usual, fewest) = (folder.fails(&usual, 1), folder.fails(&fewest, 1));
+        assert_eq!((usual.out, usual.err), (fewest.out, fewest.err), "{disks} {want}");
+        return;
+    };
+    let said = folder.done(&format!("plan code {disks} {want} --fewest -o plan"));
+    let plan = folder.get("plan");
+    assert_eq!((&plan[..2], model::check_disks(&sheet, list, &plan)), (&[5, 3][..], Ok(reads)), "{disks} {want}");
+    let count = if reads == 1 { "1 symbol".to_string() } else { format!("{reads} symbols") };
+    assert!(said.contains(&format!(", reads {count}, the fewest possible")), "{disks} {want}: {said}");
+    assert_eq!(said.contains(", brings back disk"), !want.is_empty(), "{disks} {want}: {said}");
+    // A plan doesn't say how it was made, so that nothing more is said of it.
+    let checked = folder.done(&format!("check code {disks} plan"));
+    assert!(checked.starts_with(&format!("accepted, reads {count}")) && !checked.contains("fewest"), "{checked}");
+}
+
+#[test]
+fn the_fewest_reads_are_planned() {
+    let folder = Folder::square();
+    for (disks, list) in
+        [("0", &[0][..]), ("1", &[1]), ("2", &[2]), ("3", &[3]), ("0,2", &[0, 2]), ("0-3", &[0, 1, 2, 3])]
+    {
+        fewest_is_planned(&folder, disks, list, "", &[]);
+    }
+    fewest_is_planned(&folder, "0", &[0], "--want 1", &[1]);
+    fewest_is_planned(&folder, "2,0", &[0, 2], "--want s5,0", &[0, 4, 5]);
+    fewest_is_planned(&folder, "0,1", &[0, 1], "--want s1", &[1]);
+    assert_eq!(
+        folder.done("plan code 0 --fewest -o three"),
+        "wrote three: 23 bytes, 4 steps, reads 3 symbols, the fewest possible\n"
+    );
+    // A symbol that is read alone, and one that is zero.
+    folder.put("code", &sheet(3, 1, 1, &[1, 1, 0]));
+    fewest_is_planned(&folder, "0", &[0], "", &[]);
+    fewest_is_planned(&folder, "2", &[2], "", &[]);
+    folder.put("code", &model::family("liberation", 3, 3).expect("listed"));
+    for disk in 0..5 {
+        fewest_is_planned(&folder, &disk.to_string(), &[disk], "", &[]);
+    }
+}
+
+#[test]
+fn the_fewest_reads_of_a_large_array_are_refused() {
+    let folder = Folder::new();
+    let too_many = |line: &str, survivors: u64| {
+        let sentence = folder.refused(line, 41, survivors);
+        let said = "symbols survive, and the fewest reads are worked out for 16 at most: without --fewest there is no such limit (code)";
+        assert_eq!(sentence, format!("{survivors} {said}"), "{line}");
+    };
+    folder.put("code", &model::family("liberation", 5, 5).expect("listed"));
+    too_many("plan code 0 --fewest -o none", 30);
+    too_many("plan code 0 --want 2 --fewest -o none", 30);
+    // Also where no plan can be.
+    too_many("plan code 0-2 --fewest -o none", 20);
+    too_many("show code --disk 0 --fewest --svg none", 30);
+    folder.refused("plan code 7 --fewest -o none", 7, 0);
+    let sentence = folder.refused("plan code 0 --want 5 --fewest -o none", 23, 0);
+    assert!(sentence.contains("it is symbol 5, disk 0 has 0 to 4"), "{sentence}");
+    // 16 survive, and 17.
+    folder.put("code", &model::family("single parity", 16, 1).expect("listed"));
+    fewest_is_planned(&folder, "3", &[3], "", &[]);
+    folder.put("code", &model::family("single parity", 17, 1).expect("listed"));
+    too_many("plan code 3 --fewest -o none", 17);
+}
+
+#[test]
+fn an_array_is_restored_with_the_fewest_reads() {
+    let folder = Folder::new();
+    folder.done("family liberation 3 3 -o code");
+    folder.put("data", &Random::new(13).bytes(4 * 9 * 5));
+    folder.done("split code --symbol 5 data -o array");
+    let disk = folder.get("array/disk-0");
+    folder.remove("array/disk-0");
+    folder.done("plan code 0 --fewest -o plan");
+    let said = folder.done("restore array --plan plan");
+    assert!(said.contains("read 7 symbols of each of 4 stripes, 140 bytes, from "), "{said}");
+    assert_eq!(folder.get("array/disk-0"), disk);
+}
+
 #[test]
 fn worked_plans_get_their_answers() {
     let folder = Folder::square();
@@ -841,6 +927,36 @@ fn wanted_and_unwanted_symbols_are_drawn_apart() {
 }
 
 #[test]
+fn a_plan_with_the_fewest_reads_is_drawn_as_one() {
+    let folder = Folder::square();
+    let said = |line: &str| {
+        let text = folder.done(&format!("{line} --svg out"));
+        let picture = String::from_utf8(folder.get("out")).expect("text");
+        texts_fit(&picture, line);
+        balanced(&picture);
+        let words = |text: &str| text.split_whitespace().collect::<Vec<_>>().join(" ");
+        (words(&text), words(&picture))
+    };
+    let count = "4 steps, reads 3 of 6 surviving symbols";
+    let (text, picture) = said("show code --disk 0 --fewest");
+    let whole = format!("Disk 0 is lost. The plan, checked: {count}, the fewest possible.");
+    assert!(text.contains(&whole) && picture.contains(&format!("<desc id=\"desc\">{whole}")), "{text} {picture}");
+    assert!(text.contains("● survives, read: 3") && picture.contains("survives, read (3)"), "{text}");
+    // The same count by a plan that is given, of which that isn't known; and the planner's own.
+    let (text, picture) = said("show code --disk 0 --plan plan");
+    assert!(text.contains(&format!("{count}.")) && picture.contains(&format!("{count}.")), "{text}");
+    for line in ["show code --disk 0 --plan plan", "show code --disk 0", "show code --disk 0 --want 1"] {
+        let (text, picture) = said(line);
+        assert!(!text.contains("fewest") && !picture.contains("fewest"), "{line}: {text}");
+    }
+    let (text, _) = said("show code --disk 0,2 --want s1,s4 --fewest");
+    assert!(text.contains("The plan for disk 0 row 1 and disk 2 row 0, checked: "), "{text}");
+    assert!(text.contains(", reads 4 of 4 surviving symbols, the fewest possible."), "{text}");
+    // Where there is none, the picture is that of planning without it.
+    assert_eq!(folder.fails("show code --disk 0,1 --fewest", 1).out, folder.fails("show code --disk 0,1", 1).out);
+}
+
+#[test]
 fn drawings_keep_the_width() {
     let folder = Folder::new();
     for family in ["single-parity 63 1", "single-parity 1 32", "liberation 7 7"] {
@@ -996,6 +1112,7 @@ fn damaged_sheets_fail_every_command() {
         for line in [
             "encode noise --symbol 1 data -o out",
             "plan noise 0 -o out",
+            "plan noise 0 --fewest -o out",
             "test noise 0 --symbol 1 stripes",
             "strip noise 0 --symbol 1 stripes -o out",
             "show noise --svg out",
@@ -1157,6 +1274,12 @@ fn misuse_is_explained() {
         ("show code --plan plan", "--plan needs --disk"),
         ("show code --want 0", "--want needs --disk"),
         ("show code --disk 0 --plan plan --want 0", "--want and --plan exclude each other"),
+        ("show code --fewest", "--fewest needs --disk"),
+        ("show code --plan plan --fewest", "--plan needs --disk"),
+        ("show code --disk 0 --fewest --plan plan", "--fewest and --plan exclude each other"),
+        ("plan code 0 --fewest=3 -o out", "--fewest takes no value"),
+        ("plan code 0 --fewest --fewest -o out", "--fewest is given twice"),
+        ("check code 0 plan --fewest", "check has no option --fewest"),
         ("check code 0 plan --want 0", "check has no option --want"),
         ("rebuild code 0 plan --symbol 1 stripes --want 0", "rebuild has no option --want"),
         ("demo now", "'now' is one word too many"),

@@ -4,6 +4,7 @@ use crate::failure::Failure;
 use crate::files::{is_standard, Links};
 use crate::lists::decimal;
 use crate::locks;
+use crate::planning::Choice;
 use crate::wanted::Request;
 use std::collections::VecDeque;
 use std::ffi::{OsStr, OsString};
@@ -11,7 +12,7 @@ use std::os::unix::ffi::OsStrExt;
 use std::path::{Path, PathBuf};
 
 /// The options that take no value.
-const FLAGS: &[&str] = &["--dry-run", "--in-place", "--links", "--read"];
+const FLAGS: &[&str] = &["--dry-run", "--fewest", "--in-place", "--links", "--read"];
 
 /// Whether an option takes a value.
 pub fn takes_value(option: &str) -> bool {
@@ -209,6 +210,14 @@ impl Arguments {
         match Request::read(&word) {
             Ok(request) => Ok(Some(request)),
             Err(why) => Err(self.misuse(format!("--want: {why}"))),
+        }
+    }
+
+    /// Whether a plan with the fewest reads is asked for.
+    pub fn choice(&mut self) -> Choice {
+        match self.flag("--fewest") {
+            true => Choice::FewestReads,
+            false => Choice::Usual,
         }
     }
 

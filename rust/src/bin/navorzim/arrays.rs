@@ -12,7 +12,7 @@ use crate::inventory::{way_out, Found, Inventory};
 use crate::lists::rising;
 use crate::output::Output;
 use crate::place::Place;
-use crate::planning::checked_plan;
+use crate::planning::{checked_plan, Choice};
 use crate::progress::Progress;
 use crate::recovery::{reading, Recovery, Room};
 use crate::replacement::{handles, Model, Replacement};
@@ -133,7 +133,7 @@ fn listing(array: &Array, inventory: &Inventory, described: bool) -> String {
 
 /// Whether lost disks can be rebuilt: how `status` ends where there are some.
 fn judged(array: &Array, inventory: &Inventory, lost: &Disks, mut text: String) -> Result<String, Failure> {
-    let plan = match checked_plan(&array.code, lost, &Wanted::All)? {
+    let plan = match checked_plan(&array.code, lost, &Wanted::All, Choice::Usual)? {
         Ok((plan, _)) => plan,
         Err(stuck) => return Err(beyond_help(array, inventory, &stuck, text)),
     };
@@ -178,7 +178,7 @@ pub fn join(arguments: &mut Arguments) -> Result<String, Failure> {
         true => None,
         false => {
             let wanted = Wanted::Symbols(rising(wanted.iter().map(|&home| home as u64)));
-            let plan = checked_plan(&array.code, &lost, &wanted)?;
+            let plan = checked_plan(&array.code, &lost, &wanted, Choice::Usual)?;
             let stuck = |stuck| beyond_help(&array, &inventory, &stuck, inventory.fault_lines(&array));
             Some(plan.map_err(stuck)?.0)
         }

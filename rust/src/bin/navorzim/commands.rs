@@ -4,7 +4,7 @@ use crate::disks::Disks;
 use crate::failure::{printable, Failure, Refused};
 use crate::files::Purpose;
 use crate::picture::{Picture, Story};
-use crate::planning::{checked, checked_plan, no_plan, plan_anew};
+use crate::planning::{checked, checked_plan, no_plan, plan_anew, Choice, FEWEST};
 use crate::sheets::{counted, Code, Plan};
 use crate::stream::{self, End, Pieces, Stream};
 use crate::text::Style;
@@ -42,7 +42,7 @@ pub const COMMANDS: &[Command] = &[
     Command { name: "join", options: &["-o", "--links", "--wait", "--without"], help: help::JOIN, run: arrays::join },
     Command { name: "encode", options: &["-o", "--length", "--symbol", "--wait"], help: help::ENCODE, run: encode },
     Command { name: "decode", options: &["-o", "--length", "--symbol", "--wait"], help: help::DECODE, run: decode },
-    Command { name: "plan", options: &["-o", "--wait", "--want"], help: help::PLAN, run: plan },
+    Command { name: "plan", options: &["-o", "--fewest", "--wait", "--want"], help: help::PLAN, run: plan },
     Command { name: "check", options: &[], help: help::CHECK, run: check },
     Command { name: "test", options: &["--symbol", "--wait"], help: help::TEST, run: soundness::run },
     Command {
@@ -52,7 +52,12 @@ pub const COMMANDS: &[Command] = &[
         run: rebuild,
     },
     Command { name: "strip", options: &["-o", "--symbol", "--wait"], help: help::STRIP, run: strip },
-    Command { name: "show", options: &["--disk", "--plan", "--svg", "--wait", "--want"], help: help::SHOW, run: show },
+    Command {
+        name: "show",
+        options: &["--disk", "--fewest", "--plan", "--svg", "--wait", "--want"],
+        help: help::SHOW,
+        run: show,
+    },
 ];
 
 /// The command with a name.
@@ -182,18 +187,19 @@ fn decode(arguments: &mut Arguments) -> Result<String, Failure> {
 
 fn plan(arguments: &mut Arguments) -> Result<String, Failure> {
     let (code, disks) = (arguments.source("CODE")?, arguments.disks("DISKS")?);
-    let (request, output) = (arguments.wanted()?, arguments.output()?);
+    let (request, choice, output) = (arguments.wanted()?, arguments.choice(), arguments.output()?);
     arguments.finish()?;
     let code = Code::open(&code)?;
-    let planned = checked_plan(&code, &disks, &Wanted::asked_for(request.as_ref(), &code, &disks))?;
+    let planned = checked_plan(&code, &disks, &Wanted::asked_for(request.as_ref(), &code, &disks), choice)?;
     let (plan, reads) = planned.map_err(|stuck| no_plan(stuck.text(&code), &code, &stuck))?;
     output::put(&output, &[&code.file], &plan.sheet)?;
     Ok(format!(
-        "wrote {}: {} bytes, {}, reads {}{}\n",
+        "wrote {}: {} bytes, {}, reads {}{}{}\n",
         printable(&output),
         plan.sheet.len(),
         counted(plan.steps().len(), "step"),
         counted(reads, "symbol"),
+        if choice == Choice::FewestReads { FEWEST } else { "" },
         brings_back(&code, &disks, &plan)
     ))
 }
@@ -283,22 +289,16 @@ fn show(arguments: &mut Arguments) -> Result<String, Failure> {
     let code = arguments.source("CODE")?;
     let disks = arguments.disks_option("--disk")?;
     let plan = arguments.source_option("--plan")?;
-    let request = arguments.wanted()?;
+    let (request, choice) = (arguments.wanted()?, arguments.choice());
     let drawing = arguments.target_option("--svg")?;
     arguments.finish()?;
-    let misuse = match (&disks, &plan, &request) {
-        (None, Some(_), _) => "--plan needs --disk: which disks are lost isn't left to the plan",
-        (None, _, Some(_)) => "--want needs --disk: the disks that are lost",
-        (_, Some(_), Some(_)) => "--want and --plan exclude each other: a plan says itself what it wants",
-        _ => "",
-    };
-    if !misuse.is_empty() {
+    if let Some(misuse) = clash(disks.is_some(), plan.is_some(), request.is_some(), choice) {
         return Err(arguments.misuse(misuse.to_string()));
     }
     let code = Code::open(&code)?;
     let (story, refused) = match (disks, &plan) {
         (None, _) => (Story::Code, None),
-        (Some(disks), None) => (planned_story(&code, disks, request.as_ref())?, None),
+        (Some(disks), None) => (planned_story(&code, disks, request.as_ref(), choice)?, None),
         (Some(disks), Some(plan)) => judged_story(&code, disks, &Plan::open(plan)?)?,
     };
     let picture = Picture::new(&code, &story);
@@ -318,10 +318,24 @@ fn show(arguments: &mut Arguments) -> Result<String, Failure> {
     }
 }
 
+/// Why these options don't go together, if so.
+fn clash(disks: bool, plan: bool, wanted: bool, choice: Choice) -> Option<&'static str> {
+    match (disks, plan, wanted, choice) {
+        (false, true, _, _) => Some("--plan needs --disk: which disks are lost isn't left to the plan"),
+        (false, false, true, _) => Some("--want needs --disk: the disks that are lost"),
+        (false, false, false, Choice::FewestReads) => Some("--fewest needs --disk: the disks that are lost"),
+        (true, true, true, _) => Some("--want and --plan exclude each other: a plan says itself what it wants"),
+        (true, true, false, Choice::FewestReads) => {
+            Some("--fewest and --plan exclude each other: a plan is drawn as it is")
+        }
+        (false, false, false, Choice::Usual) | (true, true, false, Choice::Usual) | (true, false, _, _) => None,
+    }
+}
+
 /// The planner's answer as a story; its plan is checked like any other.
-fn planned_story(code: &Code, disks: Disks, request: Option<&Request>) -> Result<Story, Failure> {
-    match plan_anew(code, &disks, &Wanted::asked_for(request, code, &disks))? {
-        Ok(plan) => checked_story(code, disks, &plan),
+fn planned_story(code: &Code, disks: Disks, request: Option<&Request>, choice: Choice) -> Result<Story, Failure> {
+    match plan_anew(code, &disks, &Wanted::asked_for(request, code, &disks), choice)? {
+        Ok(plan) => checked_story(code, disks, &plan, choice == Choice::FewestReads),
         Err(stuck) => Ok(Story::Stuck(stuck)),
     }
 }
@@ -338,14 +352,14 @@ fn judged_story(code: &Code, disks: Disks, plan: &Plan) -> Result<(Story, Option
             let refused = Refused { refusal, detail: String::new(), file: Some(plan.file.clone()) };
             Ok((story, Some(refused)))
         }
-        _ => Ok((checked_story(code, disks, plan)?, None)),
+        _ => Ok((checked_story(code, disks, plan, false)?, None)),
     }
 }
 
-/// An accepted plan as a story.
-fn checked_story(code: &Code, disks: Disks, plan: &Plan) -> Result<Story, Failure> {
+/// An accepted plan as a story, and whether it is known that no plan reads fewer symbols.
+fn checked_story(code: &Code, disks: Disks, plan: &Plan, fewest: bool) -> Result<Story, Failure> {
     let reads = checked(code, &disks, plan)?;
-    Ok(Story::Plan { disks, wanted: plan.wanted(), reads, steps: plan.steps() })
+    Ok(Story::Plan { disks, wanted: plan.wanted(), reads, fewest, steps: plan.steps() })
 }
 
 /// Any refusal but the one that a call without bytes must end in.

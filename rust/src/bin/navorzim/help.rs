@@ -79,6 +79,7 @@ Writes the code sheet CODE.
 Refused: 36.
 
 example: navorzim family liberation 5 5 -o code.sheet
+example: navorzim family liberation 3 3 -o small.sheet
 ";
 
 pub const SPLIT: &str = "\
@@ -205,7 +206,7 @@ example: navorzim decode code.sheet --symbol 64 stripes.bin -o decoded.txt
 ";
 
 pub const PLAN: &str = "\
-usage: navorzim plan CODE DISKS [--want LIST] -o PLAN [--wait SECONDS]
+usage: navorzim plan CODE DISKS [--want LIST] [--fewest] -o PLAN [--wait SECONDS]
 
 Reads the code sheet CODE; writes the plan sheet PLAN, by which the lost disks DISKS can be
 rebuilt: one, like 3, or several, like 0,3.
@@ -221,17 +222,22 @@ the same bytes on all surviving disks.
                the disks, or symbols by number, s5,s7 or s5-s7, or both, separated by commas.
                Their order doesn't matter, and what is named twice counts once. Without --want
                the whole disks are wanted.
+  --fewest     plans with the fewest reads: no plan that brings the same symbols back reads fewer
+               of the surviving ones, however long it is. For small arrays: at most 16 symbols may
+               survive
   --wait SECONDS  waits so long for files that somebody else has locked
 
-A plan for one disk is a sheet of edition 1, with --want of edition 2; one for several disks is
-a sheet of edition 3.
+A plan for one disk is a sheet of edition 1, with --want of edition 2; one for several disks, or
+with --fewest, is a sheet of edition 3.
 
 Refused: the code sheet (1 to 6), 7 (no such disk), 23 (more symbols than the disks have, or one
-that isn't on them; its place counts the wanted symbols from the lowest, from 0).
+that isn't on them; its place counts the wanted symbols from the lowest, from 0), with --fewest
+41 (more than 16 symbols survive; its place is their number).
 
 example: navorzim plan code.sheet 0 -o plan.sheet
 example: navorzim plan code.sheet 0,3 -o both.sheet
 example: navorzim plan code.sheet 0 --want 2,4 -o rows.sheet
+example: navorzim plan small.sheet 0 --fewest -o fewest.sheet
 ";
 
 pub const CHECK: &str = "\
@@ -310,7 +316,8 @@ example: navorzim strip code.sheet 0 --symbol 64 stripes.bin -o disk0.bin
 ";
 
 pub const SHOW: &str = "\
-usage: navorzim show CODE [--disk DISKS] [--plan PLAN | --want LIST] [--svg FILE] [--wait SECONDS]
+usage: navorzim show CODE [--disk DISKS] [--plan PLAN | [--want LIST] [--fewest]] [--svg FILE]
+                     [--wait SECONDS]
 
 Reads the code sheet CODE and draws it: disks as columns, rows as cells.
 
@@ -323,15 +330,18 @@ Reads the code sheet CODE and draws it: disks as columns, rows as cells.
                with status 1
   --want LIST  plans for these symbols of the lost disks only, as plan --want does; the lost
                symbols that aren't wanted are drawn apart
+  --fewest     draws a plan with the fewest reads, as plan --fewest makes it, and says so
   --svg FILE   writes the picture to FILE besides, or with - to standard output instead
   --wait SECONDS  waits so long for files that somebody else has locked
 
 Colours appear on a terminal, unless NO_COLOR is set; COLUMNS sets the width (else the
 terminal's own, or 80).
 
-Refused: the code sheet (1 to 6), 7 (no such disk), the plan (7 and 11 to 25), the list (23).
+Refused: the code sheet (1 to 6), 7 (no such disk), the plan (7 and 11 to 25), the list (23), with
+--fewest 41 (more than 16 symbols survive).
 
 example: navorzim show code.sheet --disk 0 --svg plan.svg
 example: navorzim show code.sheet --disk 0,3
 example: navorzim show code.sheet --disk 0 --want 2
+example: navorzim show small.sheet --disk 0 --fewest
 ";

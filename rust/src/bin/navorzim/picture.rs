@@ -1,5 +1,6 @@
 //! A model of what is drawn: disks as columns, rows as cells, and what happens to each symbol. Text and SVG draw the same model.
 use crate::disks::Disks;
+use crate::planning::FEWEST;
 use crate::sheets::{counted, members, Code, Step};
 use crate::stuck::Stuck;
 use crate::wanted::{of_them, places, rows, Wanted};
@@ -9,8 +10,8 @@ use crate::wanted::{of_them, places, rows, Wanted};
 pub enum Story {
     /// the code alone
     Code,
-    /// an accepted plan for lost disks, or for some of their symbols
-    Plan { disks: Disks, wanted: Wanted, reads: u64, steps: Vec<Step> },
+    /// an accepted plan for lost disks, or for some of their symbols; `fewest` if it is known that none reads fewer
+    Plan { disks: Disks, wanted: Wanted, reads: u64, fewest: bool, steps: Vec<Step> },
     /// a plan for lost disks that is refused, because this symbol ends wrong
     Wrong { disks: Disks, wanted: Wanted, steps: Vec<Step>, symbol: usize },
     /// no plan can be
@@ -264,17 +265,18 @@ fn reads(step: &Step, symbol: usize) -> bool {
 fn notes(code: &Code, story: &Story) -> Vec<String> {
     match story {
         Story::Code => Vec::new(),
-        Story::Plan { disks, wanted, reads, steps } => {
+        Story::Plan { disks, wanted, reads, fewest, steps } => {
             let survivors = code.symbols().saturating_sub(code.rows * disks.count());
             let plan = match wanted {
                 Wanted::All => "The plan".to_string(),
                 Wanted::Symbols(symbols) => format!("The plan for {}", of_them(code, disks, symbols)),
             };
             vec![format!(
-                "{}. {plan}, checked: {}, reads {reads} of {}.",
+                "{}. {plan}, checked: {}, reads {reads} of {}{}.",
                 disks.are_lost(),
                 counted(steps.len(), "step"),
-                counted(survivors, "surviving symbol")
+                counted(survivors, "surviving symbol"),
+                if *fewest { FEWEST } else { "" }
             )]
         }
         Story::Wrong { disks, wanted, steps, symbol } => {
@@ -304,4 +306,34 @@ fn made_of(code: &Code, disks: &Disks, wanted: &Wanted, steps: &[Step], symbol: 
     let sums = brought_back(code, disks, wanted, steps);
     let sources = sums.iter().find(|(brought, _)| *brought == symbol).map_or(0, |&(_, sources)| sources);
     members(sources).fold(0, |sum, source| sum ^ code.sums.get(source).copied().unwrap_or(0))
+}
+
+#[cfg(test)]
+mod tests {
+    use super::{Picture, Story};
+    use crate::disks::Disks;
+    use crate::sheets::{Code, Step};
+    use crate::svg;
+    use crate::text::{self, Style};
+    use crate::wanted::Wanted;
+    use std::path::Path;
+
+    /// A mirror, disk 0 lost: the caption of a plan that copies its symbol, in the text and in the picture.
+    fn captions(fewest: bool) -> [bool; 2] {
+        let rows = [1u64, 1].into_iter().flat_map(u64::to_le_bytes);
+        let sheet = [4, 1, 2, 1, 1, 2].into_iter().chain(rows).collect();
+        let code = Code::read(Path::new("mirror"), sheet).expect("a code");
+        let steps = vec![Step { kind: 1, target: 0, source: 1 }];
+        let story = Story::Plan { disks: Disks::of([0]), wanted: Wanted::All, reads: 1, fewest, steps };
+        let picture = Picture::new(&code, &story);
+        let drawn = [text::draw(&picture, Style { colour: false, width: 200 }), svg::draw(&picture)];
+        let end = if fewest { ", the fewest possible." } else { "." };
+        drawn.map(|drawn| drawn.contains(&format!("1 step, reads 1 of 1 surviving symbol{end}")))
+    }
+
+    #[test]
+    fn a_count_is_called_the_fewest_only_where_it_is_known() {
+        assert_eq!(captions(true), [true, true]);
+        assert_eq!(captions(false), [true, true]);
+    }
 }

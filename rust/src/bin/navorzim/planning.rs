@@ -7,19 +7,36 @@ use crate::stuck::Stuck;
 use crate::wanted::{self, Wanted};
 use navorzim::{Planning, Refusal};
 
-/// The planner's answer: for one disk a sheet of edition 1, or of edition 2 with a list; for several disks one of edition 3.
-fn ask(code: &Code, disks: &Disks, wanted: &Wanted) -> Result<Planning, Refusal> {
-    match (disks.one(), wanted) {
-        (Some(disk), Wanted::All) => navorzim::plan(&code.sheet, disk),
-        (Some(disk), Wanted::Symbols(symbols)) => navorzim::plan_wanted(&code.sheet, disk, &as_bytes(symbols)),
-        (None, Wanted::All) => navorzim::plan_disks(&code.sheet, &disks.as_bytes(), &[]),
-        (None, Wanted::Symbols(symbols)) => navorzim::plan_disks(&code.sheet, &disks.as_bytes(), &as_bytes(symbols)),
+/// Which of the plans that there are is asked for.
+#[derive(Clone, Copy, Debug, PartialEq, Eq)]
+pub enum Choice {
+    /// the planner's own
+    Usual,
+    /// one that reads as few symbols as any
+    FewestReads,
+}
+
+/// What is said of a number of symbols that are read, if no plan reads fewer: only of what `navorzim::plan_fewest` answered.
+pub const FEWEST: &str = ", the fewest possible";
+
+/// The planner's answer: for one disk a sheet of edition 1, or of edition 2 with a list; for several disks, or with the fewest reads, one of
+/// edition 3.
+fn ask(code: &Code, disks: &Disks, wanted: &Wanted, choice: Choice) -> Result<Planning, Refusal> {
+    let list = match wanted {
+        Wanted::All => Vec::new(),
+        Wanted::Symbols(symbols) => as_bytes(symbols),
+    };
+    match (choice, disks.one(), wanted) {
+        (Choice::FewestReads, _, _) => navorzim::plan_fewest(&code.sheet, &disks.as_bytes(), &list),
+        (Choice::Usual, Some(disk), Wanted::All) => navorzim::plan(&code.sheet, disk),
+        (Choice::Usual, Some(disk), Wanted::Symbols(_)) => navorzim::plan_wanted(&code.sheet, disk, &list),
+        (Choice::Usual, None, _) => navorzim::plan_disks(&code.sheet, &disks.as_bytes(), &list),
     }
 }
 
 /// A plan for the wanted symbols of lost disks, made anew, or why there is none.
-pub fn plan_anew(code: &Code, disks: &Disks, wanted: &Wanted) -> Result<Result<Plan, Stuck>, Failure> {
-    match ask(code, disks, wanted) {
+pub fn plan_anew(code: &Code, disks: &Disks, wanted: &Wanted, choice: Choice) -> Result<Result<Plan, Stuck>, Failure> {
+    match ask(code, disks, wanted, choice) {
         Ok(Planning::Plan { plan, .. }) => Ok(Ok(Plan { file: code.file.clone(), sheet: plan })),
         Ok(Planning::NoPlan { patterns }) => match Stuck::new(code, disks, wanted, patterns) {
             Ok(stuck) => Ok(Err(stuck)),
@@ -35,8 +52,13 @@ pub fn plan_anew(code: &Code, disks: &Disks, wanted: &Wanted) -> Result<Result<P
 }
 
 /// A plan for the wanted symbols of lost disks, made anew and checked, with how many symbols it reads, or why there is none.
-pub fn checked_plan(code: &Code, disks: &Disks, wanted: &Wanted) -> Result<Result<(Plan, u64), Stuck>, Failure> {
-    match plan_anew(code, disks, wanted)? {
+pub fn checked_plan(
+    code: &Code,
+    disks: &Disks,
+    wanted: &Wanted,
+    choice: Choice,
+) -> Result<Result<(Plan, u64), Stuck>, Failure> {
+    match plan_anew(code, disks, wanted, choice)? {
         Ok(plan) => {
             let reads = checked(code, disks, &plan)?;
             Ok(Ok((plan, reads)))
@@ -47,7 +69,7 @@ pub fn checked_plan(code: &Code, disks: &Disks, wanted: &Wanted) -> Result<Resul
 
 /// Whether the wanted symbols of lost disks have a plan.
 pub fn has_plan(code: &Code, disks: &Disks, wanted: &Wanted) -> bool {
-    matches!(ask(code, disks, wanted), Ok(Planning::Plan { .. }))
+    matches!(ask(code, disks, wanted, Choice::Usual), Ok(Planning::Plan { .. }))
 }
 
 /// How a command ends that met patterns.

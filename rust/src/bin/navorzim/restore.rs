@@ -7,7 +7,7 @@ use crate::failure::{printable, Failure};
 use crate::files::{open_regular, trouble, Held, Purpose};
 use crate::gather::{Block, Blocks};
 use crate::inventory::{Found, Inventory};
-use crate::planning::{checked, checked_plan};
+use crate::planning::{checked, checked_plan, Choice};
 use crate::progress::Progress;
 use crate::recovery::{bytes_read, reading, Recovery, Room};
 use crate::replacement::{handles, Model, Replacement};
@@ -115,7 +115,7 @@ fn plan_for(array: &Array, inventory: &Inventory, lost: &Disks, targets: &Disks)
         true => Wanted::All,
         false => Wanted::Symbols(Wanted::All.symbols(&array.code, targets)),
     };
-    match checked_plan(&array.code, lost, &wanted)? {
+    match checked_plan(&array.code, lost, &wanted, Choice::Usual)? {
         Ok((plan, _)) => Ok(plan),
         Err(stuck) => Err(beyond_help(array, inventory, &stuck, inventory.fault_lines(array))),
     }

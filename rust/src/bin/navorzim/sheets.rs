@@ -166,6 +166,7 @@ impl Code {
                 (format!("asked for {disk}, it has 0 to {last}"), own)
             }
             (Refusal::SymbolLength, _) => (format!("asked for {symbol}"), None),
+            (Refusal::TooManySurvivors { .. }, _) => ("without --fewest there is no such limit".to_string(), own),
             _ => {
                 let detail = plan.map_or(String::new(), |plan| plan.detail(refusal, disks, self));
                 (detail, planned.or(own))
