@@ -45,6 +45,7 @@ mod proved {
         fn navorzim_encode(s: Bytes, sl: usize, size: u64, c: Bytes, cl: usize, stripe: BytesMut, stripe_length: usize) -> Verdict;
         fn navorzim_rebuild(s: Bytes, sl: usize, disk: u64, p: Bytes, pl: usize, size: u64, stripe: BytesMut, stripe_length: usize) -> Verdict;
         fn navorzim_plan(s: Bytes, sl: usize, disk: u64, buffer: BytesMut, buffer_length: usize) -> Planned;
+        fn navorzim_plan_fewest(s: Bytes, sl: usize, d: Bytes, dl: usize, w: Bytes, wl: usize, buffer: BytesMut, buffer_length: usize) -> Planned;
         fn navorzim_check(s: Bytes, sl: usize, disk: u64, p: Bytes, pl: usize) -> Checked;
         fn navorzim_test_survivors(s: Bytes, sl: usize, d: Bytes, dl: usize, size: u64, stripe: Bytes, stripe_length: usize) -> Tested;
     }
@@ -62,7 +63,15 @@ mod proved {
     }
 
     pub fn plan(sheet: &[u8], disk: usize, buffer: &mut [u8]) -> u64 {
-        let planned = unsafe { navorzim_plan(sheet.as_ptr(), sheet.len(), disk as u64, buffer.as_mut_ptr(), buffer.len()) };
+        answer_of(unsafe { navorzim_plan(sheet.as_ptr(), sheet.len(), disk as u64, buffer.as_mut_ptr(), buffer.len()) })
+    }
+
+    pub fn fewest(sheet: &[u8], disks: &[u8], wanted: &[u8], buffer: &mut [u8]) -> u64 {
+        let (d, w, b) = ((disks.as_ptr(), disks.len()), (wanted.as_ptr(), wanted.len()), (buffer.as_mut_ptr(), buffer.len()));
+        answer_of(unsafe { navorzim_plan_fewest(sheet.as_ptr(), sheet.len(), d.0, d.1, w.0, w.1, b.0, b.1) })
+    }
+
+    fn answer_of(planned: Planned) -> u64 {
         match planned {
             Planned { number, .. } if number != 0 => number,
             Planned { length: 0, .. } => 999,
@@ -424,6 +433,193 @@ mod simple {
         1000 + reads as u64
     }
 
+    /// The images of a search: of each unit pattern the symbols that it shows on, and sums of these.
+    type Images = [u64; 64];
+
+    /// What a search goes by besides its images: how many there are, what is wanted, the smallest set found, and how often it may still branch.
+    struct Search {
+        total: usize,
+        wanted: u64,
+        best: u64,
+        branchings: usize,
+    }
+
+    /// Images that share no symbol that may be taken: those symbols, and how many images they are.
+    struct Disjoint {
+        used: u64,
+        found: u32,
+    }
+
+    impl Disjoint {
+        /// One more, if it has a wanted symbol, and few symbols that may be taken, none of them used.
+        fn take(&mut self, image: u64, wanted: u64, allowed: u64, few: u32) {
+            let shared = image & allowed;
+            if image & wanted != 0 && shared.count_ones() <= few && shared & self.used == 0 {
+                self.used |= shared;
+                self.found += 1;
+            }
+        }
+    }
+
+    /// An image that has an element is added to each image that has it.
+    fn reduce(images: &mut [u64], pivot: u64, element: u32) {
+        for image in images.iter_mut().filter(|image| **image >> element & 1 == 1) {
+            *image ^= pivot;
+        }
+    }
+
+    impl Search {
+        /// The images added to each other until each has a symbol of its own among those that may be taken.
+        fn spread(&self, images: &mut Images, allowed: u64) {
+            for i in 0..self.total {
+                let image = images[i];
+                if image & allowed != 0 {
+                    reduce(&mut images[..self.total], image, (image & allowed).trailing_zeros());
+                    images[i] = image;
+                }
+            }
+        }
+
+        /// So many symbols at least are to be taken besides: images, sums of two, and images again, as far as they share none.
+        fn needed(&self, images: &Images, allowed: u64) -> u32 {
+            let (images, mut disjoint) = (&images[..self.total], Disjoint { used: 0, found: 0 });
+            for &image in images {
+                disjoint.take(image, self.wanted, allowed, 1);
+            }
+            for (i, image) in images.iter().enumerate() {
+                for other in &images[..i] {
+                    disjoint.take(image ^ other, self.wanted, allowed, 2);
+                }
+            }
+            for &image in images {
+                disjoint.take(image, self.wanted, allowed, 64);
+            }
+            disjoint.found
+        }
+
+        /// Takes the first symbol of an image with a wanted symbol and the fewest that may be taken, then leaves it out.
+        fn run(&mut self, mut images: Images, taken: u64, allowed: u64) {
+            self.spread(&mut images, allowed);
+            let choices = images[..self.total].iter().filter(|image| **image & self.wanted != 0);
+            let Some(&image) = choices.min_by_key(|image| (*image & allowed).count_ones()) else {
+                if taken.count_ones() < self.best.count_ones() {
+                    self.best = taken;
+                }
+                return;
+            };
+            let (most, now) = (self.best.count_ones(), taken.count_ones());
+            if image & allowed == 0 || most <= now + 1 || most - now <= self.needed(&images, allowed) || self.branchings == 0 {
+                return;
+            }
+            let element = (image & allowed).trailing_zeros();
+            let left = allowed ^ 1 << element;
+            let mut reduced = images;
+            reduce(&mut reduced[..self.total], image, element);
+            self.branchings -= 1;
+            self.run(reduced, taken | 1 << element, left);
+            self.run(images, taken, left);
+        }
+    }
+
+    /// The same search for a smallest set of survivors that is enough for the wanted symbols.
+    fn smallest(code: &Code, survivors: u64, wanted: u64) -> Search {
+        let mut images = [0; 64];
+        for (s, row) in code.rows[..code.n * code.r].iter().enumerate() {
+            for (t, image) in images[..code.k].iter_mut().enumerate() {
+                *image |= (row >> t & 1) << s;
+            }
+        }
+        let mut search = Search { total: code.k, wanted, best: survivors, branchings: BRANCHINGS };
+        search.run(images, 0, survivors);
+        search
+    }
+
+    /// The subsets of 16 survivors.
+    const BRANCHINGS: usize = 65_536;
+
+    /// How often the search branches when disk 0 of two disks is lost.
+    pub fn branchings(sheet: &[u8]) -> usize {
+        let Ok(code) = read(sheet) else { return 0 };
+        let lost = (1 << code.r) - 1;
+        BRANCHINGS - smallest(&code, lost << code.r, lost).branchings
+    }
+
+    /// Whether a list of disks or symbols rises.
+    fn rises(list: &[u8]) -> bool {
+        list.windows(2).all(|pair| pair[0] < pair[1])
+    }
+
+    fn set_of(list: impl IntoIterator<Item = usize>) -> u64 {
+        list.into_iter().fold(0, |set, s| set | 1 << s)
+    }
+
+    /// Planning with the fewest reads by the same method: a smallest set of survivors that is enough, then a plan from that set.
+    #[inline(never)]
+    pub fn fewest(sheet: &[u8], disks: &[u8], list: &[u8], buffer: &mut [u8]) -> u64 {
+        let code = match read(sheet) {
+            Ok(code) => code,
+            Err(number) => return number,
+        };
+        if disks.iter().any(|&disk| disk as usize >= code.n) {
+            return 7;
+        }
+        if disks.is_empty() || disks.len() > code.n || !rises(disks) {
+            return 24;
+        }
+        let symbols = code.n * code.r;
+        let lost = set_of(disks.iter().flat_map(|&disk| disk as usize * code.r..(disk as usize + 1) * code.r));
+        if list.len() > disks.len() * code.r || !rises(list) || list.iter().any(|&s| s as usize >= symbols || lost >> s & 1 == 0) {
+            return 23;
+        }
+        if buffer.len() < 3210 {
+            return 34;
+        }
+        let survivors = (!0 >> (64 - symbols)) & !lost;
+        if survivors.count_ones() > 16 {
+            return 41;
+        }
+        let wanted = if list.is_empty() { lost } else { set_of(list.iter().map(|&s| s as usize)) };
+        plan_from(&code, disks, list, wanted, smallest(&code, survivors, wanted).best, buffer)
+    }
+
+    /// An edition 3 plan for wanted symbols from known ones.
+    fn plan_from(code: &Code, disks: &[u8], list: &[u8], wanted: u64, known: u64, buffer: &mut [u8]) -> u64 {
+        let symbols = code.n * code.r;
+        let mut rows = code.rows;
+        for (s, row) in rows.iter_mut().enumerate() {
+            if known >> s & 1 == 0 {
+                *row = 0;
+            }
+        }
+        let (pivots, patterns) = eliminate(&rows[..symbols], code.k);
+        let targets = || (0..symbols).filter(|t| wanted >> t & 1 == 1);
+        if targets().any(|t| patterns[..code.k].iter().any(|&pattern| odd(pattern, code.rows[t]))) {
+            return 999;
+        }
+        let start = 10 + disks.len() + list.len();
+        let (mut at, mut sources) = (start, 0u64);
+        for t in targets() {
+            let subset = subset_for(&pivots, &rows[..symbols], code.rows[t]);
+            sources |= subset;
+            let mut kind = 1;
+            for s in (0..symbols).filter(|s| subset >> s & 1 == 1) {
+                buffer[at..at + 3].copy_from_slice(&[kind, t as u8, s as u8]);
+                (kind, at) = (2, at + 3);
+            }
+            if subset == 0 {
+                buffer[at..at + 3].copy_from_slice(&[0, t as u8, 0]);
+                at += 3;
+            }
+        }
+        let (reads, steps) = (sources.count_ones() as u8, (at - start) / 3);
+        buffer[..7].copy_from_slice(&[5, 3, code.n as u8, code.r as u8, code.k as u8, reads, disks.len() as u8]);
+        buffer[7..7 + disks.len()].copy_from_slice(disks);
+        buffer[7 + disks.len()] = list.len() as u8;
+        buffer[8 + disks.len()..start - 2].copy_from_slice(list);
+        buffer[start - 2..start].copy_from_slice(&(steps as u16).to_le_bytes());
+        1000 + reads as u64
+    }
+
     /// The test by the same equations, with one pass over the bytes for each symbol of an equation.
     #[inline(never)]
     pub fn test(sheet: &[u8], disks: &[u8], size: usize, stripe: &[u8]) -> u64 {
@@ -525,12 +721,55 @@ fn liberation_rows(w: usize, k: usize) -> Vec<u64> {
     rows
 }
 
-/// Its code sheet.
-fn liberation_sheet(w: usize, k: usize) -> Vec<u8> {
-    let rows = liberation_rows(w, k);
-    let mut sheet = vec![4, 1, (k + 2) as u8, w as u8, (k * w) as u8, rows.len() as u8];
+/// A code sheet: n, r, K and the rows.
+fn code_sheet(n: usize, r: usize, k: usize, rows: &[u64]) -> Vec<u8> {
+    let mut sheet = vec![4, 1, n as u8, r as u8, k as u8, rows.len() as u8];
     sheet.extend(rows.iter().flat_map(|row| row.to_le_bytes()));
     sheet
+}
+
+/// The sheet of Liberation.
+fn liberation_sheet(w: usize, k: usize) -> Vec<u8> {
+    code_sheet(k + 2, w, k * w, &liberation_rows(w, k))
+}
+
+/// The sheet of single parity with disks of one row.
+fn parity_sheet(k: usize) -> Vec<u8> {
+    let rows: Vec<u64> = (0..k).map(|t| 1 << t).chain([(1 << k) - 1]).collect();
+    code_sheet(k + 1, 1, k, &rows)
+}
+
+/// The sheet of row-diagonal: the diagonals of Q go over the data disks and P.
+fn row_diagonal_sheet(p: usize) -> Vec<u8> {
+    let r = p - 1;
+    let mut rows: Vec<u64> = (0..r * r).map(|t| 1 << t).collect();
+    rows.extend((0..r).map(|i| (0..r).fold(0, |row, c| row | 1 << (c * r + i))));
+    let on_diagonal = |s: usize, i: usize| (s / r + s % r) % p == i;
+    let diagonals: Vec<u64> = (0..r).map(|i| (0..p * r).filter(|&s| on_diagonal(s, i)).fold(0, |row, s| row ^ rows[s])).collect();
+    rows.extend(diagonals);
+    code_sheet(p + 1, r, r * r, &rows)
+}
+
+/// The sheet of a random code on two disks of 16 rows, each of them the sum of some of so many random ones.
+fn random_sheet(k: usize, rank: usize, seed: u64) -> Vec<u8> {
+    let mut state = seed;
+    let mut next = || {
+        state = state.wrapping_mul(6364136223846793005).wrapping_add(1442695040888963407);
+        (state ^ state >> 29).wrapping_mul(0x2545F4914F6CDD1D)
+    };
+    let basis: Vec<u64> = (0..rank).map(|_| next() >> (64 - k)).collect();
+    let mut sum = || {
+        let chosen = next() >> (64 - rank);
+        (0..rank).filter(|i| chosen >> i & 1 == 1).fold(0, |sum, i| sum ^ basis[i])
+    };
+    let rows: Vec<u64> = (0..32).map(|_| sum()).collect();
+    code_sheet(2, 16, k, &rows)
+}
+
+/// Of so many random codes the one for which the search branches most often: its number and its sheet.
+fn hardest_random_sheet(k: usize, rank: usize, codes: u64) -> (u64, Vec<u8>) {
+    let hardest = (0..codes).max_by_key(|&seed| simple::branchings(&random_sheet(k, rank, seed))).unwrap_or(0);
+    (hardest, random_sheet(k, rank, hardest))
 }
 
 /// The sheet of a code with K 64 on two disks of 32 rows: every row has about half its bits, so that elimination has most to do.
@@ -644,6 +883,39 @@ fn planning(what: &str, sheet: &[u8], answer: u64) {
     row(&format!("plan, {what}"), "simple Rust", interleaved(100, || proved::plan(sheet, 0, &mut ours), theirs));
 }
 
+/// The line of planning with the fewest reads: its ratio to simple Rust, and the time of a call of ours in milliseconds.
+fn planning_fewest(what: &str, sheet: &[u8], disks: &[u8]) -> (f64, f64) {
+    let (mut ours, mut theirs) = (vec![1u8; 3210], vec![1u8; 3210]);
+    let answer = proved::fewest(sheet, disks, &[], &mut ours);
+    assert!(answer >= 1000 && simple::fewest(sheet, disks, &[], &mut theirs) == answer && ours == theirs, "the two planners disagree");
+    let time = Instant::now();
+    proved::fewest(sheet, disks, &[], &mut ours);
+    let calls = (1_000_000 / time.elapsed().as_nanos().max(1000)) as usize + 1;
+    let theirs = || simple::fewest(sheet, disks, &[], &mut theirs);
+    let times = interleaved(calls, || proved::fewest(sheet, disks, &[], &mut ours), theirs);
+    (row(&format!("fewest, {what}"), "simple Rust", times), times.0 / 1_000_000.0)
+}
+
+/// The lines of planning with the fewest reads: each ratio to simple Rust, and the longest time of ours in milliseconds. Of a random code disk 0 is
+/// lost: 16 symbols are wanted, and 16 survive.
+fn fewest() -> (Vec<(String, f64)>, f64) {
+    let ((small, small_sheet), (large, large_sheet)) = (hardest_random_sheet(8, 8, 1000), hardest_random_sheet(64, 9, 100));
+    let lines = [
+        ("Liberation w 5, k 2, disk 0".to_string(), liberation_sheet(5, 2), &[0][..]),
+        ("single parity, 17 disks, disk 0".to_string(), parity_sheet(16), &[0]),
+        ("row-diagonal p 5, disks 0 and 1".to_string(), row_diagonal_sheet(5), &[0, 1]),
+        (format!("random code {small} of 1,000, K 8"), small_sheet, &[0]),
+        (format!("random code {large} of 100, K 64, rank 9"), large_sheet, &[0]),
+    ];
+    let mut longest = 0f64;
+    let ratios = lines.iter().map(|(what, sheet, disks)| {
+        let (ratio, time) = planning_fewest(what, sheet, disks);
+        longest = longest.max(time);
+        (format!("fewest, {what}"), ratio)
+    });
+    (ratios.collect(), longest)
+}
+
 /// The lines of rebuilding, and its ratio to simple Rust.
 fn rebuilding(sheet: &[u8], plan: &[u8], size: usize) -> f64 {
     let contents: Vec<u8> = (0..25 * size).map(|i| (i * 11 + i / 239) as u8).collect();
@@ -703,19 +975,26 @@ fn testing(sheet: &[u8], lost: u8, size: usize) -> f64 {
 }
 
 /// The loops over bytes are fast only where the compiler makes one of its own for each number of sources. It says nothing where it doesn't, so
-/// this does: the lines at L 4,096, and whether all are within their bounds.
+/// this does: the lines at L 4,096, those of planning with the fewest reads, and whether all are within their bounds.
 fn check(sheet: &[u8], plan: &[u8]) -> bool {
-    let bounds = [
-        ("encode", encoding(sheet, 4096), 0.9),
-        ("rebuild", rebuilding(sheet, plan, 4096), 0.8),
-        ("test, disk 0 lost,", testing(sheet, 0, 4096), 0.9),
-        ("test, disk 6 lost,", testing(sheet, 6, 4096), 0.9),
+    let mut ratios = vec![
+        ("encode, L 4096".to_string(), encoding(sheet, 4096), 0.9),
+        ("rebuild, L 4096".to_string(), rebuilding(sheet, plan, 4096), 0.8),
+        ("test, disk 0 lost, L 4096".to_string(), testing(sheet, 0, 4096), 0.9),
+        ("test, disk 6 lost, L 4096".to_string(), testing(sheet, 6, 4096), 0.9),
     ];
-    for (what, ratio, bound) in bounds {
-        println!("{what} at L 4096 takes {ratio:.2} of simple Rust, {} {bound}", if ratio <= bound { "within" } else { "ABOVE" });
+    let (of_fewest, longest) = fewest();
+    ratios.extend(of_fewest.into_iter().map(|(what, ratio)| (what, ratio, 1.3)));
+    let is_within = |measured: f64, bound: f64| if measured <= bound { "within" } else { "ABOVE" };
+    for (what, ratio, bound) in &ratios {
+        println!("{what}: {ratio:.2} of simple Rust, {} {bound}", is_within(*ratio, *bound));
     }
-    bounds.iter().all(|(_, ratio, bound)| ratio <= bound)
+    println!("fewest, the longest call: {longest:.2} ms, {} {LONGEST_FEWEST}", is_within(longest, LONGEST_FEWEST));
+    ratios.iter().all(|(_, ratio, bound)| ratio <= bound) && longest <= LONGEST_FEWEST
 }
+
+/// So many milliseconds planning with the fewest reads may take.
+const LONGEST_FEWEST: f64 = 20.0;
 
 fn main() {
     let (sheet, plan) = (liberation_sheet(5, 5), plan_with_20_reads());
@@ -732,6 +1011,7 @@ fn main() {
     planning("N 64, K 64", &dense_plannable_sheet(), 1032);
     planning("N 64, K 64, none exists", &dense_sheet(), 999);
     planning("Liberation w 7, k 7", &liberation_sheet(7, 7), 1049);
+    fewest();
     let times = interleaved(1000, || proved::check(&sheet, 0, black_box(&plan)), || simple::check(&sheet, 0, black_box(&plan)));
     row("check, 28 steps", "simple Rust", times);
     for size in sizes {
