@@ -521,16 +521,24 @@ mod simple {
         }
     }
 
-    /// The same search for a smallest set of survivors that is enough for the wanted symbols.
+    /// The same search for a smallest set of survivors that is enough for the wanted symbols. It begins with the images of the symbols involved, spread over
+    /// the survivors, without the empty ones.
     fn smallest(code: &Code, survivors: u64, wanted: u64) -> Search {
         let mut images = [0; 64];
-        for (s, row) in code.rows[..code.n * code.r].iter().enumerate() {
+        for (s, row) in code.rows[..code.n * code.r].iter().enumerate().filter(|(s, _)| (survivors | wanted) >> s & 1 == 1) {
             for (t, image) in images[..code.k].iter_mut().enumerate() {
                 *image |= (row >> t & 1) << s;
             }
         }
         let mut search = Search { total: code.k, wanted, best: survivors, branchings: BRANCHINGS };
-        search.run(images, 0, survivors);
+        search.spread(&mut images, survivors);
+        let (mut first, mut total) = ([0; 64], 0);
+        for &image in images[..code.k].iter().filter(|&&image| image != 0) {
+            first[total] = image;
+            total += 1;
+        }
+        search.total = total;
+        search.run(first, 0, survivors);
         search
     }
 
