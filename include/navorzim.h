@@ -78,6 +78,20 @@
  * Which d patterns are answered is left open. They are the same whenever the same is asked.
  *
  *
+ * The fewest reads
+ *
+ * Take four disks of two symbols: a and b; c and d; a XOR c and b XOR d; a XOR d and b XOR c. The first disk is lost. Row by row, a is made of
+ * c and a XOR c, and b of d and b XOR d: 4 symbols are read. But b is also made of c and b XOR c, and c is read already: 3 are enough.
+ *
+ * navorzim_plan_fewest answers a plan whose read count no accepted plan goes below: none of any length, also of more steps than a sheet can
+ * have, and none of any edition, that wants the same symbols when the same disks are lost. It looks for a smallest set of survivors that is
+ * enough, and that may take twice as long with each survivor more. So it is for small arrays: where more than 16 symbols survive it refuses
+ * (41), whether or not there is a plan, and navorzim_plan_disks is left.
+ *
+ *   navorzim_planned planned = navorzim_plan_fewest(sheet, sheet_length, disks, disks_length, NULL, 0, buffer, buffer_length);
+ *   if (planned.number == 41) ..          planned.place symbols survive: ask navorzim_plan_disks, with the same arguments
+ *
+ *
  * Before a rebuild: can the survivors be sound?
  *
  * A rebuild believes what it reads. Where the survivors have symbols to spare, they can be held against each other first. An EQUATION is a set
@@ -139,6 +153,7 @@
  *   36      the family has no such parameters, or its n, N or r is above a limit
  *   37      the sheet buffer is shorter than the sheet to be written
  *   38      the symbol isn't below N
+ *   41      more than 16 symbols survive, too many for navorzim_plan_fewest            how many survive
  *
  * The order of "the code sheet's" is 1 (under 6 bytes), 3 (first count), 4, 5, 3 (second count), 1, 2, 6.
  *
@@ -199,8 +214,8 @@ extern "C" {
 #endif
 
 /* Lengths of buffers that always suffice. No code sheet is longer than the first. A buffer for navorzim_plan must have 3,081 bytes or more,
- * and one for navorzim_plan_wanted 3,114 or more: the second is enough for both. A buffer for navorzim_plan_disks must have as many bytes as
- * the third, or more, and no plan sheet is longer. */
+ * and one for navorzim_plan_wanted 3,114 or more: the second is enough for both. A buffer for navorzim_plan_disks or navorzim_plan_fewest must
+ * have as many bytes as the third, or more, and no plan sheet is longer. */
 #define NAVORZIM_SHEET_BYTES 518
 #define NAVORZIM_PLAN_BYTES 3114
 #define NAVORZIM_PLAN_DISKS_BYTES 3210
@@ -336,13 +351,28 @@ navorzim_planned navorzim_plan_wanted(const uint8_t *sheet, size_t sheet_length,
  * If it can be done, a plan sheet of edition 3 with exactly these lists is written to the front of the buffer, which must have 3,210 bytes
  * or more, and its length and read count are answered; the bytes after it stay. Of N symbols with x lost the plan has at most x * (N - x)
  * steps, or, if no disk survives, at most one clear for each wanted symbol. navorzim_check_disks accepts these very bytes with this very
- * count. It need not be the one that reads the fewest symbols.
+ * count. It need not be the one that reads the fewest symbols: for that, navorzim_plan_fewest is asked.
  * If it can't, by any plan of any length, nothing is written. Answered are the number of patterns and the first of them, whose stripe is 0 on
  * every surviving disk and not 0 in some wanted symbol ("How much is gone", above).
  * Refusals: the code sheet's, 7, 24, 23, 34. */
 NAVORZIM_ANSWER
 navorzim_planned navorzim_plan_disks(const uint8_t *sheet, size_t sheet_length, const uint8_t *disks, size_t disks_length,
                                      const uint8_t *wanted, size_t wanted_length, uint8_t *buffer, size_t buffer_length);
+
+/* Plan with the fewest reads, for small arrays: asked like navorzim_plan_disks, where at most 16 symbols survive ("The fewest reads", above).
+ * If it can be done, a plan sheet of edition 3 with exactly these lists is written to the front of the buffer, which must have 3,210 bytes
+ * or more, and its length and read count are answered; the bytes after it stay. No plan of any length and edition that wants the same symbols
+ * of the same disks, and would be accepted, reads fewer; which one with so few reads it is, is left open. Of N symbols with x lost the plan
+ * has at most x * (N - x) steps, or, if no disk survives, at most one clear for each wanted symbol. navorzim_check_disks accepts these very
+ * bytes with this very count.
+ * If it can't, by any plan of any length, nothing is written, and the answer is that of navorzim_plan_disks: the number of patterns and the
+ * first of them ("How much is gone", above). navorzim_lost_pattern answers each of them.
+ * Where more than 16 symbols survive it refuses with 41, and the place is their number, whether or not there is a plan. None, and 16, are few
+ * enough.
+ * Refusals: the code sheet's, 7, 24, 23, 34, 41. */
+NAVORZIM_ANSWER
+navorzim_planned navorzim_plan_fewest(const uint8_t *sheet, size_t sheet_length, const uint8_t *disks, size_t disks_length,
+                                      const uint8_t *wanted, size_t wanted_length, uint8_t *buffer, size_t buffer_length);
 
 /* One of the patterns that say how much is gone: where navorzim_plan_disks has no plan for these lists, number `index`, from 0, of the d
  * patterns that it answers. For those of navorzim_plan and navorzim_plan_wanted the list of disks has their one disk. From d on, and where
@@ -450,6 +480,7 @@ NAVORZIM_INLINE const char *navorzim_reason(uint64_t number) {
     case 36: return "the family has no code with these parameters";
     case 37: return "the buffer is shorter than the code sheet";
     case 38: return "the array has no such symbol";
+    case 41: return "more than 16 symbols survive, too many to look for the fewest reads";
     default: return "a refusal that this header has no sentence for";
     }
 }
