@@ -5,7 +5,8 @@ Which plan or which patterns are given is free, so it makes neither. It says how
 the surviving rows, and judges what was given: a plan by running it on stripes, patterns by encoding their bytes.
 
     python3 tests/second_planner.py     runs its own test, on the worked cases of document 01 and on answers that are wrong; then it
-                                        judges crates/planvectors/stdout, line by line, against the records of crates/planvectors/stdin
+                                        judges crates/planvectors/stdout, line by line, against the records of crates/planvectors/stdin.
+                                        Lines of the fewest reads are left to second_fewest.py
 """
 import sys
 from collections import Counter
@@ -14,7 +15,7 @@ from itertools import chain, combinations, combinations_with_replacement
 from operator import xor
 from pathlib import Path
 from random import Random
-from typing import Iterable, NamedTuple, Optional, Sequence
+from typing import Callable, Iterable, NamedTuple, Optional, Sequence
 
 from second import SQUARE, Code, Refusal, changed, encoding, evenodd, liberation, rank, read_code, row_diagonal, sheet_of, single_parity
 from second_checker import ADD, CLEAR, COPY, P2, ROW_1, TWO_DISKS, Disks, Listed, Step, check, disks_in, disks_refusal, edition_of, listed_in
@@ -189,7 +190,7 @@ def random_bytes(length: int) -> bytes:
 
 class Asked(NamedTuple):
     """A record: a code sheet, a buffer, some disks, one after the other, and perhaps a list of wanted symbols; or a set of disks, asked about
-    at once, and a list that may be empty. crates/planvectors/src/main.rt describes its bytes."""
+    at once, and a list that may be empty, for planning or for the fewest reads. crates/planvectors/src/main.rt describes its bytes."""
 
     sheet: bytes
     disk: int
@@ -199,16 +200,21 @@ class Asked(NamedTuple):
     shown: bool = False
     listed: Optional[bytes] = None
     disks: Optional[bytes] = None
+    fewest: bool = False
 
     @property
     def wish(self) -> Wish:
         return for_disk(self.disk, self.listed) if self.disks is None else for_disks(self.disks, self.listed or b"")
 
+    @property
+    def kind(self) -> int:
+        return 3 if self.fewest else self.wish.edition - 1
+
     def record(self) -> bytes:
         numbers = bytes([self.shown, self.seed]) + self.buffer_length.to_bytes(2, "little") + bytes([self.count])
         first = self.disk if self.disks is None else len(self.disks)
         listed = self.listed or b""
-        section = bytes([self.wish.edition - 1]) + len(listed).to_bytes(2, "little") + listed
+        section = bytes([self.kind]) + len(listed).to_bytes(2, "little") + listed
         body = numbers + first.to_bytes(8, "little") + section + (self.disks or b"") + self.sheet
         return len(body).to_bytes(2, "little") + body
 
@@ -228,7 +234,8 @@ def records_in(given: bytes) -> list[Asked]:
         behind = 16 + int.from_bytes(body[14:16], "little")
         listed, rest = body[16:behind] if body[13] > 0 else None, body[behind:]
         asked = Asked(rest, first, body[4], buffer_length, body[1], body[0] == 1, listed)
-        found.append(asked._replace(sheet=rest[first:], disk=0, disks=rest[:first]) if body[13] == 2 else asked)
+        of_set = asked._replace(sheet=rest[first:], disk=0, disks=rest[:first], fewest=body[13] == 3)
+        found.append(of_set if body[13] >= 2 else asked)
     return found
 
 
@@ -279,14 +286,29 @@ def judge_patterns_line(asked: Asked, words: list[str]) -> Fault:
     return judge_patterns(asked.sheet, asked.wish, numbers[1:])
 
 
-def judge_lines(questions: list[Asked], lines: list[str]) -> list[str]:
+def judge_lines(questions: list[Asked], lines: list[str], judge: Callable[[Asked, str], Fault] = judge_line) -> list[str]:
     """What is wrong, a sentence for each line."""
     faults = [] if len(questions) == len(lines) else [f"{len(lines)} lines for {len(questions)} questions"]
     for number, (asked, line) in enumerate(zip(questions, lines), start=1):
-        fault = judge_line(asked, line)
+        fault = judge(asked, line)
         if fault is not None:
             faults.append(f"line {number}: {line}: {fault}")
     return faults
+
+
+def printed() -> tuple[list[Asked], list[str]]:
+    """The questions of crates/planvectors, and the lines that the program printed."""
+    questions = [one for asked in records_in((CRATE / "stdin").read_bytes()) for one in asked.each()]
+    return questions, (CRATE / "stdout").read_text().splitlines()
+
+
+def let_stand(questions: list[Asked], lines: list[str], judge: Callable[[Asked, str], Fault]) -> None:
+    """Ends the program where a line may not stand."""
+    faults = judge_lines(questions, lines, judge)
+    for fault in faults[:20]:
+        print(fault)
+    if faults:
+        sys.exit(f"crates/planvectors/stdout may not stand: {len(faults)} faults")
 
 
 # The program's own test
@@ -588,6 +610,7 @@ def test_lines() -> None:
     for asked, line in wrong:
         assert judge_line(asked, line) is not None, line
     assert judge_lines([unsolvable], []) and not judge_lines([unsolvable], ["patterns 1 1 same good"])
+    assert judge_lines([unsolvable] * 2, ["patterns 1 1 same good", ""]) == ["line 2: : neither a plan nor patterns"]
 
 
 def test_lines_with_lists() -> None:
@@ -666,21 +689,20 @@ def test_records() -> None:
     large = Asked(SQUARE_SHEET, 2**64 - 1, 1, 258, 255, True)
     asked = [large, Asked(sheet_of(P8), 0, 2), large._replace(listed=b""), large._replace(listed=bytes(300))]
     of_sets = [Asked(SQUARE_SHEET, 0, listed=listed, disks=disks) for listed in (b"", b"\1", bytes(300)) for disks in (b"", b"\0\2", bytes(300))]
+    of_sets += [one._replace(fewest=True) for one in of_sets]
     assert records_in(b"".join(one.record() for one in asked + of_sets)) == asked + of_sets
     assert [one.disk for one in asked[1].each()] == [0, 1]
     assert all(one.each() == [one] for one in of_sets)
     assert of_sets[4].record()[6:22] == bytes([1, 2, 0, 0, 0, 0, 0, 0, 0, 2, 1, 0, 1, 0, 2, 4])
+    assert of_sets[13].record()[6:22] == bytes([1, 2, 0, 0, 0, 0, 0, 0, 0, 3, 1, 0, 1, 0, 2, 4])
 
 
 def judge_program() -> None:
-    """What the program crates/planvectors printed."""
-    questions = [one for asked in records_in((CRATE / "stdin").read_bytes()) for one in asked.each()]
-    lines = (CRATE / "stdout").read_text().splitlines()
-    faults = judge_lines(questions, lines)
-    for fault in faults[:20]:
-        print(fault)
-    if faults:
-        sys.exit(f"crates/planvectors/stdout may not stand: {len(faults)} faults")
+    """What the program crates/planvectors printed of planning."""
+    every, all_lines = printed()
+    let_stand(every, all_lines, lambda asked, line: None if asked.fewest else judge_line(asked, line))
+    questions = [asked for asked in every if not asked.fewest]
+    lines = [line for asked, line in zip(every, all_lines) if not asked.fewest]
     kinds = Counter(line.split(" ")[0] for line in lines)
     shown = sum(asked.shown and line.startswith("plan") for asked, line in zip(questions, lines))
     counts = ", ".join(f"{kinds[kind]} {kind}" for kind in ("plan", "patterns", "refused"))
