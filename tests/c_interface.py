@@ -12,6 +12,7 @@ import second
 from arrays import SPECIAL_CODES, below, chosen, random_bytes, random_code, shuffled
 from second import Code, Refusal, changed, read_code, sheet_of
 from second_checker import P2, ROW_1, TWO_DISKS, Disks, check, plan_sheet, set_sheet
+from second_fewest import Given, Gone, families, judge, sets_in_range, units
 from second_planner import BUFFER, LIST_BUFFER, SET_BUFFER, Wish, for_disk, for_disks, how_much_is_gone, judge_patterns, judge_plan
 from second_planner import planning_refusal
 from second_rebuild import rebuild
@@ -40,6 +41,7 @@ ANSWERS = {
     "plan": "planned",
     "plan_wanted": "planned",
     "plan_disks": "planned",
+    "plan_fewest": "planned",
     "lost_pattern": "set",
     "rebuild": "verdict",
     "rebuild_disks": "verdict",
@@ -63,10 +65,10 @@ def load(path: str) -> CDLL:
 
 
 def ask(call: str, *given: Any) -> tuple[int, ...]:
-    """A call's answer as a tuple. Bytes go as pointer and length, numbers as they are."""
+    """A call's answer as a tuple. Bytes go as pointer and length, nothing as NULL and 0, numbers as they are."""
     global calls
     calls += 1
-    crossed = [c for g in given for c in ((c_uint64(g),) if isinstance(g, int) else (g, c_size_t(len(g))))]
+    crossed = [c for g in given for c in ((c_uint64(g),) if isinstance(g, int) else (g, c_size_t(len(g or b""))))]
     answer = getattr(LIBRARY, "navorzim_" + call)(*crossed)
     return tuple(getattr(answer, name) for name in FIELDS[ANSWERS[call]])
 
@@ -142,6 +144,27 @@ def test_lost_patterns(sheet: bytes, disks: bytes, listed: bytes) -> list[int]:
         if beyond >= gone:
             assert ask("lost_pattern", sheet, disks, listed, beyond) == (*(refusal or (0, 0)), 0, 0)
     return [low for _, _, low, _ in found]
+
+
+def test_fewest(sheet: bytes, disks: bytes, listed: bytes, length: int = SET_BUFFER) -> int:
+    """Which plan with the fewest reads is given is free; where there is none, the patterns are those of planning. Answers the read count."""
+    before = (random_bytes(97) * (length // 97 + 1))[:length]
+    buffer = lent(before)
+    number, place, size, reads, *first, gone = ask("plan_fewest", sheet, disks, listed, buffer)
+    assert buffer.raw[size:] == before[size:]
+    if number:
+        assert (size, reads, *first, gone) == (0, 0, 0, 0, 0)
+        answer = Refusal(number, place)
+    elif size:
+        assert (place, *first, gone) == (0, 0, 0, 0)
+        answer = Given(buffer.raw[:size], reads)
+        test_check_disks(sheet, disks, buffer.raw[:size])
+    else:
+        answer = Gone(test_lost_patterns(sheet, disks, listed))
+        assert (place, reads, *first, gone) == (0, 0, *answer.patterns[:1], 0, len(answer.patterns))
+    fault = judge(sheet, for_disks(disks, listed), length, answer)
+    assert fault is None, fault
+    return reads
 
 
 def test_check(sheet: bytes, disk: int, plan: bytes) -> None:
@@ -254,6 +277,7 @@ def test_sets(code: Code, sheet: bytes, size: int, stripe: bytes) -> None:
     plan = test_plan(sheet, for_disks(disks, listed), SET_BUFFER - chosen((0, 0, 0, 1, 96)) + chosen((0, 0, 9)))
     one = test_plan(sheet, for_disks(disks[:1]), SET_BUFFER)
     test_lost_patterns(sheet, disks, listed)
+    test_fewest(sheet, disks, listed, SET_BUFFER - chosen((0, 0, 0, 1, 96)) + chosen((0, 0, 9)))
     stated = [set_sheet(code, disks[:255], []), set_sheet(code, disks[:255], [], listed=listed[:255]), plan_sheet(code, (disks or b"\0")[0], [])]
     for tried in with_faults(plan) + with_faults(one) + stated:
         for asked in (disks, disks[:1]):
@@ -307,6 +331,41 @@ def test_how_much_is_gone() -> None:
     assert len(test_lost_patterns(sheet_of(second.SQUARE), bytes(range(4)), b"")) == 4
 
 
+def test_fewest_reads() -> None:
+    """The square code, every family within range, and both sides of 16 survivors, with a plan and without."""
+    assert [test_fewest(sheet_of(second.SQUARE), bytes([disk]), b"") for disk in range(4)] == [3, 3, 4, 4]
+    for name, code in families():
+        stood = 1 if name.startswith("single parity") else 2
+        for disks in [disks for disks in sets_in_range(code) if len(disks) <= stood]:
+            test_fewest(sheet_of(code), bytes(disks), b"")
+            test_fewest(sheet_of(code), bytes(disks), any_list(code, disks))
+    every, ones = range(64), Code(64, 1, 1, (1,) * 64)
+    for code in (units(64), ones, ones._replace(rows=(0,) * 64)):
+        for left in (0, 1, 15, 16, 17, 18, 63):
+            test_fewest(sheet_of(code), bytes(sorted(shuffled(every)[: 64 - left])), b"")
+    for k, r in [(16, 1), (17, 1), (8, 2), (9, 2), (4, 4), (5, 4), (1, 16), (1, 17)]:
+        test_fewest(sheet_of(second.single_parity(k, r)), bytes([below(k + 1)]), b"")
+    for code in (units(17), units(18)):
+        test_fewest(sheet_of(code), bytes([below(code.disks)]), b"")
+
+
+def test_fewest_refused() -> None:
+    """Each refusal, each with each, and NULL with length 0, of an array that is small enough and of one that isn't."""
+    for code in (second.SQUARE, second.row_diagonal(5), second.liberation(7, 7), units(18)):
+        good = sheet_of(code)
+        sheets = [good, b"", good[:5], changed(good, 0, 5), changed(good, 1, 2), changed(good, 4, 0), changed(good, 13, 128), good[:-1], good + b"\0"]
+        lists = [b"", b"\0", b"\0\0", bytes([code.height]), b"\0\377", bytes(code.height + 1), bytes(300)]
+        for sheet in sheets:
+            for disks in (b"\0", b"", b"\0\0", bytes([0, code.disks]), bytes([1, 0]), bytes(code.disks + 1), bytes(300), b"\377"):
+                for listed in lists:
+                    for length in (0, 3209, 3210):
+                        test_fewest(sheet, disks, listed, length)
+    sheet, disks, buffer = sheet_of(second.SQUARE), b"\0", lent(bytes(SET_BUFFER))
+    for given, number in [((None, disks, b"", buffer), 1), ((sheet, None, b"", buffer), 24), ((sheet, disks, b"", None), 34), ((None,) * 4, 1)]:
+        assert ask("plan_fewest", *given) == (number, 0, 0, 0, 0, 0, 0)
+    assert ask("plan_fewest", sheet, disks, None, buffer)[:4:3] == (0, 3)
+
+
 def test_every_survivor() -> None:
     """Every single byte of a stripe of each family, with every disk lost; and the longest symbols, first, last and middle column."""
     for code in (second.liberation(3, 3), second.liberation(5, 5), second.row_diagonal(5), second.evenodd(3), second.single_parity(4, 3)):
@@ -345,6 +404,8 @@ def main() -> None:
     test_large_disks()
     test_two_losses()
     test_how_much_is_gone()
+    test_fewest_reads()
+    test_fewest_refused()
     test_every_survivor()
     print(f"the C interface: {calls} calls answer as the second program")
 

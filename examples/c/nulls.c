@@ -55,6 +55,11 @@ static void several_disks(void) {
     /* no list wants everything */
     expect("plan for disks, list", navorzim_plan_disks(sheet, 22, disks, 1, NULL, 0, buffer, sizeof buffer).number, 0);
     expect("plan for disks, buffer", navorzim_plan_disks(sheet, 22, disks, 1, wanted, 1, NULL, 0).number, 34);
+    expect("fewest reads, all", navorzim_plan_fewest(NULL, 0, NULL, 0, NULL, 0, NULL, 0).number, 1);
+    expect("fewest reads, sheet", navorzim_plan_fewest(NULL, 0, disks, 1, wanted, 1, buffer, sizeof buffer).number, 1);
+    expect("fewest reads, disks", navorzim_plan_fewest(sheet, 22, NULL, 0, wanted, 1, buffer, sizeof buffer).number, 24);
+    expect("fewest reads, list", navorzim_plan_fewest(sheet, 22, disks, 1, NULL, 0, buffer, sizeof buffer).number, 0);
+    expect("fewest reads, buffer", navorzim_plan_fewest(sheet, 22, disks, 1, wanted, 1, NULL, 0).number, 34);
     expect("pattern, all", navorzim_lost_pattern(NULL, 0, NULL, 0, NULL, 0, 0).number, 1);
     expect("pattern, sheet", navorzim_lost_pattern(NULL, 0, disks, 1, wanted, 1, 0).number, 1);
     expect("pattern, disks", navorzim_lost_pattern(sheet, 22, NULL, 0, wanted, 1, 0).number, 24);
