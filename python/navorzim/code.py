@@ -179,6 +179,22 @@ class Code:
         lost, listed = numbers(disks), numbers(wanted)
         return self._planned("plan_disks", (lost, listed), lost, listed)
 
+    def plan_fewest(self, disks: Iterable[int], wanted: Iterable[int] = ()) -> Plan:
+        """As plan_disks, with a plan that reads the fewest symbols: no plan of any length and edition for the same disks and wanted symbols
+        would be accepted and reads fewer. For small arrays: more than 16 surviving symbols are refused, whether or not there is a plan.
+        Raises NoPlan where there is none. Refused: 7, 24, 23, 41.
+
+        >>> code = Code.row_diagonal(3)
+        >>> code.plan_disks([0]).reads, code.plan_fewest([0]).reads
+        (4, 3)
+        >>> Code.liberation(7, 7).plan_fewest([0])
+        Traceback (most recent call last):
+        ...
+        navorzim.refusals.Refused: refused 41 at 56: more than 16 symbols survive, too many to look for the fewest reads (56 symbols survive)
+        """
+        lost, listed = numbers(disks), numbers(wanted)
+        return self._planned("plan_fewest", (lost, listed), lost, listed)
+
     def _planned(self, call: str, asked: "tuple[Any, ...]", disks: Iterable[int], wanted: Iterable[int] = ()) -> Plan:
         buffer = bytearray(PLAN_BYTES)
         planned = accepted(ask(call, self.sheet, *asked, buffer))

@@ -40,6 +40,7 @@ CALLS = {
     "plan": ("planned", (READ, NUMBER, WRITTEN)),
     "plan_wanted": ("planned", (READ, NUMBER, READ, WRITTEN)),
     "plan_disks": ("planned", (READ, READ, READ, WRITTEN)),
+    "plan_fewest": ("planned", (READ, READ, READ, WRITTEN)),
     "lost_pattern": ("set", (READ, READ, READ, NUMBER)),
     "rebuild": ("verdict", (READ, NUMBER, READ, NUMBER, WRITTEN)),
     "rebuild_disks": ("verdict", (READ, READ, READ, NUMBER, WRITTEN)),

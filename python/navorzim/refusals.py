@@ -31,6 +31,7 @@ REASONS = {
     36: "the family has no code with these parameters",
     37: "the buffer is shorter than the code sheet",
     38: "the array has no such symbol",
+    41: "more than 16 symbols survive, too many to look for the fewest reads",
 }
 """The sentences of navorzim.h's navorzim_reason."""
 
@@ -45,6 +46,7 @@ PLACES = {
     23: "entry {place}",
     24: "entry {place}",
     25: "step {place}",
+    41: "{place} symbols survive",
 }
 """What a place says, for those numbers that have one."""
 

@@ -17,6 +17,7 @@ sys.path.insert(0, str(Path(__file__).resolve().parents[2] / "tests"))
 import second
 from arrays import SPECIAL_CODES, below, chosen, random_bytes, random_code, shuffled
 from second_checker import check, plan_sheet, set_sheet
+from second_fewest import Given, Gone, families, judge, sets_in_range, units
 from second_planner import SET_BUFFER, Wish, for_disk, for_disks, how_much_is_gone, image, judge_patterns, judge_plan, planning_refusal
 from second_rebuild import rebuild
 from second_soundness import SOUND, equations_refusal, judge_equations, test_survivors
@@ -156,6 +157,26 @@ class Calls(unittest.TestCase):
         self.assertEqual(len(plan.steps), int.from_bytes(plan.sheet[head - 2 : head], "little"))
         return plan
 
+    def hold_fewest(self, code: second.Code, mine: Code, disks: bytes, listed: bytes) -> None:
+        """Which plan with the fewest reads is given is free. The same is asked of the library with guard bytes around all that it is lent."""
+        sheet, wish = second.sheet_of(code), for_disks(disks, listed)
+        given: Any
+        try:
+            plan = answer(lambda: mine.plan_fewest(chosen((list, tuple, bytes))(disks), listed))
+            given = Given(plan.sheet, plan.reads) if isinstance(plan, Plan) else plan
+        except NoPlan as why:
+            given = Gone(why.patterns)
+            self.assertEqual(why.patterns, mine.lost_patterns(disks, listed))
+        self.assertIsNone(judge(sheet, wish, SET_BUFFER, given))
+        read, buffer = [Guarded(sheet), Guarded(disks), Guarded(listed)], Guarded(random_bytes(33) * 98)
+        before = buffer.content()
+        planned = ask("plan_fewest", *(lent.view for lent in read), buffer.view)
+        self.assertEqual([lent.content() for lent in read], [sheet, disks, listed])
+        written = given.plan if isinstance(given, Given) else b""
+        self.assertEqual(buffer.content(), written + before[len(written) :])
+        self.assertEqual((planned.length, planned.reads), (len(written), given.reads if written else 0))
+        self.assertEqual((planned.number, planned.place), given if isinstance(given, second.Refusal) else (0, 0))
+
     def hold_patterns(self, code: second.Code, mine: Code, disks: bytes, listed: bytes) -> None:
         """Which patterns is free; that there are as many as are gone, none where there is a plan, is not."""
         sheet, wish = second.sheet_of(code), for_disks(disks, listed)
@@ -209,6 +230,7 @@ class Calls(unittest.TestCase):
                 listed = chosen(([], sorted(shuffled(lost)[: 1 + below(len(lost))]), lost[::-1]))
                 plan = self.plan(code, for_disks(bytes(disks), bytes(listed)), lambda: mine.plan_disks(chosen((list, tuple, bytes))(disks), listed))
                 self.hold_patterns(code, mine, bytes(disks), bytes(listed))
+                self.hold_fewest(code, mine, bytes(disks), bytes(listed))
                 stripe = random_bytes(code.symbols * size)
                 if plan:
                     self.hold(code, mine, disks, plan.sheet, size, stripe)
@@ -216,6 +238,24 @@ class Calls(unittest.TestCase):
                     self.hold(code, mine, disks[:1], plan.sheet, size, stripe)
                     self.hold(code, mine, disks[0], plan.sheet, size, stripe)
                 self.hold(code, mine, disks, set_sheet(code, good, []), size, stripe)
+
+    def test_fewest_reads(self) -> None:
+        """Families within range, both sides of 16 survivors, with a plan and without, and each refusal before 41."""
+        for name, code in families():
+            if not name.startswith("single parity") and code.symbols <= 20:
+                for disks in sets_in_range(code):
+                    lost = [symbol for symbol in range(code.symbols) if symbol // code.height in disks]
+                    listed = chosen((b"", bytes(sorted(shuffled(lost)[: 1 + below(len(lost))]))))
+                    self.hold_fewest(code, Code(second.sheet_of(code)), bytes(disks), listed)
+        self.assertEqual([Code(second.sheet_of(second.SQUARE)).plan_fewest([disk]).reads for disk in range(4)], [3, 3, 4, 4])
+        parities = [second.single_parity(k, r) for k, r in ((16, 1), (17, 1), (1, 16), (1, 17))]
+        for code in [units(17), units(18)] + parities:
+            for disks in (b"\0", bytes([code.disks - 1]), bytes(range(code.disks)), b"\1\0", b"", b"\0\0", b"\377"):
+                for listed in (b"", disks[:1], b"\0\0", b"\377"):
+                    self.hold_fewest(code, Code(second.sheet_of(code)), disks, listed)
+        for left in (0, 1, 16, 17, 63):
+            lost = sorted(shuffled(range(64))[: 64 - left])
+            self.hold_fewest(units(64), Code(second.sheet_of(units(64))), bytes(lost), b"")
 
     def hold_survivors(self, code: second.Code, mine: Code, disks: Any, size: int, stripe: bytes) -> None:
         """Equations and test. Which list of equations is free."""
@@ -256,6 +296,8 @@ class Calls(unittest.TestCase):
             self.assertEqual(answer(lambda: code.plan_disks([0, entry])), second.Refusal(7))
             self.assertEqual(answer(lambda: code.plan_disks([0, 1], [0, 1, entry])), second.Refusal(23, 2))
             self.assertEqual(answer(lambda: code.plan_wanted(0, [1, entry])), second.Refusal(23, 1))
+            self.assertEqual(answer(lambda: code.plan_fewest([0, entry])), second.Refusal(7))
+            self.assertEqual(answer(lambda: code.plan_fewest([0, 1], [0, 1, entry])), second.Refusal(23, 2))
             self.assertEqual(answer(lambda: code.check([entry], code.plan(0))), second.Refusal(7))
             self.assertEqual(answer(lambda: code.test_survivors([0, entry], 1, bytes(24))), second.Refusal(7))
             self.assertEqual(answer(lambda: code.equations([entry, 0])), second.Refusal(7))
