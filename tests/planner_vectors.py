@@ -1,5 +1,5 @@
 """The records of planning: every family, codes of every shape that can and can't be rebuilt, lists of wanted symbols, sets of disks, every
-refusal, and codes of which more and more is gone."""
+refusal, codes of which more and more is gone, and small arrays for the fewest reads."""
 from collections import Counter
 from itertools import combinations, product
 from typing import Iterable, Optional
@@ -10,6 +10,7 @@ from edition3_vectors import ASKED_SETS, COPIES, EVERY, LONGER_SETS, ZEROS, all_
 from plans import all_lists, planted_code, restorable, some_lists, torn_codes
 from second import SQUARE, Code, changed, evenodd, liberation, row_diagonal, row_diagonal_before, sheet_of, single_parity
 from second_checker import Disks, lost_places
+from second_fewest import LISTED, NOTHING, families, sets_in_range, units
 from second_planner import BUFFER, HALF, LIST_BUFFER, P8, P9, SET_BUFFER, Asked, for_disk, for_disks, most_steps
 
 SHOWN_STEPS = 16
@@ -53,6 +54,9 @@ class Questions:
         for disks in sets:
             shown = most_steps(code, for_disks(disks)) <= SHOWN_STEPS
             self.add_set(kind, sheet_of(code), disks, listed, **{"shown": shown, **more})
+
+    def add_fewest(self, kind: str, sheet: bytes, disks: Disks, listed: Iterable[int] = (), **more: int) -> None:
+        self.add_set(f"fewest, {kind}", sheet, disks, listed, fewest=True, **more)
 
 
 # Codes that can be rebuilt
@@ -472,3 +476,90 @@ def add_gone_questions(questions: Questions) -> None:
     add_every_list(questions)
     add_less_than_lost(questions)
     add_all_gone(questions)
+
+
+# The fewest reads
+
+
+def add_fewest_of_small_codes(questions: Questions) -> None:
+    """Every set of disks of small arrays, and lists: of one disk all, of several some."""
+    for code in (SQUARE, P8, P9, HALF, COPIES, NOTHING, row_diagonal(3)):
+        for disks in all_sets(code):
+            lists = all_lists(code, disks) if len(disks) == 1 else some_lists(code, disks)
+            for listed in [[]] + lists:
+                questions.add_fewest("worked cases", sheet_of(code), disks, listed, shown=True)
+    for listed in [[]] + all_lists(LISTED, [0]):
+        questions.add_fewest("worked cases", sheet_of(LISTED), [0], listed, shown=True)
+
+
+def add_fewest_of_families(questions: Questions) -> None:
+    """Every family within range: of single parity the first and the last disk; of the others each disk and each two, with a list and without,
+    and of larger sets, which have no plan, every sixth, for what is left of them."""
+    for name, code in families():
+        sets = sets_in_range(code)
+        if name.startswith("single parity"):
+            for disks in [disks for disks in sets if disks in ((0,), (code.disks - 1,))]:
+                questions.add_fewest("single parity", sheet_of(code), disks, shown=code.symbols <= 8)
+            continue
+        for disks in [disks for disks in sets if len(disks) <= 2]:
+            for listed in [[], chosen(some_lists(code, disks))]:
+                length = chosen([SET_BUFFER, SET_BUFFER + 1, 4096])
+                questions.add_fewest("families", sheet_of(code), disks, listed, buffer_length=length, shown=len(disks) == 1)
+        for disks in [disks for disks in sets if len(disks) > 2][::6]:
+            questions.add_fewest("families, torn", sheet_of(code), disks, chosen([[], restorable(code, disks)]))
+
+
+def add_few_survivors(questions: Questions) -> None:
+    """0 survivors, 1, 16, 17 and more, with a plan and without: a data symbol for each symbol, one for all, and none."""
+    kind = "few survivors and more"
+    shapes = [(64, 1, (0, 1, 16, 17, 63)), (32, 2, (0, 8, 9)), (16, 4, (4, 5)), (21, 3, (5, 6)), (3, 16, (0, 1, 2)), (2, 17, (0, 1))]
+    for disks, height, lefts in shapes:
+        symbols = disks * height
+        for left, rows in product(lefts, (tuple(2**bit for bit in range(symbols)), (1,) * symbols, (0,) * symbols)):
+            lost = sorted(shuffled(range(disks))[: disks - left])
+            questions.add_fewest(kind, sheet_of(Code(disks, height, symbols, rows)), lost)
+    for k, r in [(15, 1), (16, 1), (17, 1), (8, 2), (9, 2), (4, 4), (5, 4), (1, 16), (1, 17), (1, 32), (63, 1)]:
+        questions.add_fewest(kind, sheet_of(single_parity(k, r)), [below(k + 1)])
+    for code in (units(17), units(18), row_diagonal(5), row_diagonal(7), evenodd(5), liberation(5, 3)):
+        questions.add_fewest(kind, sheet_of(code), [1])
+
+
+def add_fewest_of_random_codes(questions: Questions) -> None:
+    """Codes of any rank, rows that are sums of a few others or of many, with lists; up to 16 survivors."""
+    for turn in range(60):
+        code = chosen([random_code, low_rank_code])(2 + below(4), 1 + below(3), 1 + below(8))
+        disks = any_set(code)
+        for listed in [[], chosen(some_lists(code, disks))]:
+            questions.add_fewest("random codes", sheet_of(code), disks, listed, shown=turn % 2 == 0)
+    shapes = [(17, 1, 1), (9, 2, 1), (5, 4, 1), (3, 8, 1), (2, 16, 1), (6, 3, 1), (8, 2, 2), (20, 1, 4), (64, 1, 48), (16, 4, 12), (8, 8, 6)]
+    for disks, height, lost_count in shapes:
+        for data_symbols in (3, 8, 12, 16, 64):
+            lost = sorted(shuffled(range(disks))[:lost_count])
+            code = planted_code(disks, height, data_symbols, lost)
+            listed = chosen([[]] + some_lists(code, lost))
+            questions.add_fewest("planted codes", sheet_of(code), lost, listed, shown=height == 1 and disks <= 20)
+
+
+def add_fewest_refused(questions: Questions) -> None:
+    """Each refusal, and each with each: an array of few survivors and one of many, whose 41 comes after everything else."""
+    large = sheet_of(single_parity(20, 1))
+    for sheet in refused_sheets()[::3]:
+        questions.add_fewest("code sheet refused", sheet, [0, 0])
+    for disks in ASKED_SETS + LONGER_SETS[::2]:
+        questions.add_fewest("asked", sheet_of(SQUARE), disks)
+    for sheet in (sheet_of(SQUARE), large):
+        for listed in ([0, 0], [1, 0], [0, 2], [64], [255], [0] * 3, [0] * 64, [0] * 300, range(256)):
+            questions.add_fewest("bad list", sheet, [0], listed)
+        for length in (0, 3081, 3114, 3209, 3210, 3211):
+            questions.add_fewest("buffer at a limit", sheet, [1], buffer_length=length)
+    sheets = (large, large[:-1], changed(large, 0, 5))
+    for sheet, disks, listed, length in product(sheets, ([2], [2, 21], [2, 2], []), ([], [2], [3]), (3210, 3209)):
+        questions.add_fewest("several faults", sheet, disks, listed, buffer_length=length)
+
+
+def add_fewest_questions(questions: Questions) -> None:
+    add_fewest_of_small_codes(questions)
+    add_fewest_of_families(questions)
+    add_few_survivors(questions)
+    add_fewest_of_random_codes(questions)
+    add_fewest_refused(questions)

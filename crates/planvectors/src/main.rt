@@ -3,12 +3,13 @@
 //
 // A record is two bytes with its length, then one byte that is 1 where a plan's bytes are to be shown, one byte as a seed, two bytes with the
 // buffer's length, one byte with the number of questions, 8 bytes with a number, one byte with their kind, two bytes with the length of a list of
-// wanted symbols, the list, with kind 2 the asked disks, a byte each, and the code sheet. All numbers have their low byte first. The buffer is
-// filled from the seed, and so is the data of the stripe that a plan is tried on.
+// wanted symbols, the list, with kinds 2 and 3 the asked disks, a byte each, and the code sheet. All numbers have their low byte first. The buffer
+// is filled from the seed, and so is the data of the stripe that a plan is tried on.
 //
 //   kind 0, disks one after the other, without a list: the number is the first disk
 //   kind 1, disks one after the other, with a list: the number is the first disk
 //   kind 2, one question about a set of disks, with a list that may be empty: the number is the number of asked disks
+//   kind 3, as kind 2, of the planning that gives the fewest reads
 //
 //   refused NUMBER at PLACE same                             the refusal, and whether the buffer is as it was
 //   plan LENGTH READS accepted behind-same restored BYTES    whether the checker accepts the plan with these reads, and its sheet wants what
@@ -70,9 +71,14 @@ fn behind_list(record: &[u8]) -> &[u8] {
     rest_at(rest_at(record, 16), two_bytes_at(record, 14))
 }
 
+// Whether a record names a set of disks.
+fn names_set(record: &[u8]) -> bool {
+    2 <= kind_of(record)
+}
+
 // How many disks of a set a record names.
 fn asked_count(record: &[u8]) -> usize {
-    if kind_of(record) == 2 {
+    if names_set(record) {
         return number_at(record, 5);
     }
     0
@@ -359,13 +365,14 @@ fn print_answer(record: &[u8], disks: &[u8], answer: PlanningAnswer, buffer: &[u
     }
 }
 
-// Asks for a plan: for one disk, without a list or with one, or for a set of disks.
+// Asks for a plan: for one disk, without a list or with one, or for a set of disks, any plan or one with the fewest reads.
 fn plan(record: &[u8], disk: usize, disks: &[u8], buffer: &mut [u8]) -> PlanningAnswer {
     let sheet = sheet_in(record);
     match kind_of(record) {
         0 => planner::plan(sheet, disk, buffer),
         1 => planner::plan_wanted(sheet, disk, list_in(record), buffer),
-        _ => planner::plan_disks(sheet, disks, list_in(record), buffer),
+        2 => planner::plan_disks(sheet, disks, list_in(record), buffer),
+        _ => fewest_planner::plan_fewest(sheet, disks, list_in(record), buffer),
     }
 }
 
@@ -417,7 +424,7 @@ fn ask_about_each(record: &[u8]) {
 }
 
 fn answer(record: &[u8]) {
-    if kind_of(record) == 2 {
+    if names_set(record) {
         ask_about(record, 0, asked_in(record));
         end_line();
         return;
