@@ -26,5 +26,5 @@ from .library import Readable, Writable
 from .plans import Plan, Step
 from .refusals import NoPlan, Refused, Unsound
 
-__version__ = "0.2.1"
+__version__ = "0.2.2"
 __all__ = ["Code", "NoPlan", "Plan", "Readable", "Refused", "Step", "Unsound", "Writable"]
