@@ -1582,7 +1582,7 @@ fn the_readme_is_true() {
         }
         lines += 1;
     }
-    assert_eq!(lines, 17);
+    assert_eq!(lines, 19);
     for name in ["joined.txt", "decoded.txt"] {
         assert_eq!(folder.get(name), folder.get("examples/register.txt"), "{name}");
     }
