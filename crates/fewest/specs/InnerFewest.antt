@@ -4,7 +4,7 @@ use mathlib.Core.Bool.{Bool, true, false, _&&_, _||_}
 use mathlib.Core.List.{List}
 use mathlib.Core.Logic.{_⊎_}
 use Prim.Native.Nat.{ℕ, _+_, _^_, _≤_, _<_}
-use lib.Bits.{bitAnd}
+use lib.Bits.{bitAnd, bitXor}
 use lib.ListN.{getD}
 use Rattle.bits.specs.BitSets.{has, overlap}
 use Rattle.bits.specs.Lists.{countFrom}
@@ -95,8 +95,13 @@ pub record Needed (taken other : ℕ → Bool) (used found : ℕ) : Type 0 where
   pub untaken : (s : ℕ) → taken s ≡ true → has used s ≡ false
 
 -- A set meets each of so many images
-abbrev pub MeetsEach : ℕ → ℕ → ℕ → (ℕ → ℕ → ℕ) → (ℕ → Bool) → (ℕ → Bool) → Type 0
-MeetsEach wanted allowed count imageAt taken other = (i : ℕ) → i < count → Meets wanted allowed taken other (imageAt i 0)
+abbrev pub MeetsEach : ℕ → ℕ → ℕ → List ℕ → (ℕ → Bool) → (ℕ → Bool) → Type 0
+MeetsEach wanted allowed count images taken other = (i : ℕ) → i < count → Meets wanted allowed taken other (getD images i 0)
+
+-- and each sum of two of them
+abbrev pub MeetsEachSum : ℕ → ℕ → ℕ → List ℕ → (ℕ → Bool) → (ℕ → Bool) → Type 0
+MeetsEachSum wanted allowed count images taken other =
+    (i j : ℕ) → i < count → j < count → Meets wanted allowed taken other (bitXor (getD images i 0) (getD images j 0))
 
 -- With more images, of those that a set meets, what is found to be needed of it still is
 abbrev pub StillNeeded : ((ℕ → Bool) → (ℕ → Bool) → Type 0) → Disjoint → Disjoint → Type 0

@@ -14,7 +14,7 @@ ghost use Rattle.gf2.specs.InnerElimination.{reducePattern};
 ghost use Rattle.gf2.specs.Selection.{Below};
 ghost use Rattle.gf2.specs.InnerSubsetPlans.{survivors};
 ghost use Rattle.gf2.specs.Plans.{PlacesBelow};
-ghost use Rattle.fewest.specs.InnerFewest.{Avoids, Fewest, Images, IsColumn, KeepsImages, Meets, MeetsEach, NeededBesides, OfWidth, Searched, StillNeeded, either, size};
+ghost use Rattle.fewest.specs.InnerFewest.{Avoids, Fewest, Images, IsColumn, KeepsImages, Meets, MeetsEach, MeetsEachSum, NeededBesides, OfWidth, Searched, StillNeeded, either, size};
 use bits::BitSet;
 use bits::BitSets;
 use bits::SET_WIDTH;
@@ -181,7 +181,7 @@ fn with_images(
     few: usize,
 ) -> Disjoint
     requires { ⌜ total ≤ setWidth ⌝ }
-    ensures { λ r. ⌜ StillNeeded (MeetsEach (numeral wanted) (numeral allowed) total (getD (numerals images))) earlier r ⌝ }
+    ensures { λ r. ⌜ StillNeeded (MeetsEach (numeral wanted) (numeral allowed) total (numerals images)) earlier r ⌝ }
 {
     let mut more = earlier;
     let mut i = 0;
@@ -192,23 +192,27 @@ fn with_images(
     more
 }
 
-// The sums of an image with each of the others.
-fn with_sums(
+// The sums of two of them each.
+fn with_pairs(
     earlier: Disjoint,
     images: BitSets,
     total: usize,
-    image: BitSet,
     wanted: BitSet,
     allowed: BitSet,
     few: usize,
 ) -> Disjoint
     requires { ⌜ total ≤ setWidth ⌝ }
-    ensures { λ r. ⌜ StillNeeded (MeetsEach (numeral wanted) (numeral allowed) total (λ i d. bitXor (numeral image) (getD (numerals images) i d))) earlier r ⌝ }
+    ensures { λ r. ⌜ StillNeeded (MeetsEachSum (numeral wanted) (numeral allowed) total (numerals images)) earlier r ⌝ }
 {
     let mut more = earlier;
     let mut i = 0;
     while i < total {
-        more = with_image(more, sum(image, images[i]), wanted, allowed, few);
+        let image = images[i];
+        let mut j = 0;
+        while j < i {
+            more = with_image(more, sum(image, images[j]), wanted, allowed, few);
+            j += 1;
+        }
         i += 1;
     }
     more
@@ -223,13 +227,9 @@ fn symbols_needed(images: BitSets, total: usize, wanted: BitSet, allowed: BitSet
         used: empty(),
         found: 0,
     };
-    let mut more = with_images(none, images, total, wanted, allowed, 1);
-    let mut i = 0;
-    while i < total {
-        more = with_sums(more, images, i, images[i], wanted, allowed, 2);
-        i += 1;
-    }
-    let all = with_images(more, images, total, wanted, allowed, SET_WIDTH);
+    let alone = with_images(none, images, total, wanted, allowed, 1);
+    let pairs = with_pairs(alone, images, total, wanted, allowed, 2);
+    let all = with_images(pairs, images, total, wanted, allowed, SET_WIDTH);
     all.found
 }
 
