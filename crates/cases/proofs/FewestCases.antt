@@ -7,7 +7,7 @@ use native.Mathlib.Decide.{decLe}
 use native.Mathlib.Omega.{arith}
 use lib.Dec.{eqb, ltb}
 use lib.ListN.{length, getD, take}
-use borrow.Author.Tests.{eq-eqb, ltb-false}
+use borrow.Author.Tests.{ltb-false}
 use Rattle.bits.specs.BitSets.{overlap}
 use Rattle.bits.specs.Lists.{firstFrom, countFrom}
 use Rattle.bits.proofs.Booleans.{and-left, and-right, and-true-if-both}
@@ -22,10 +22,10 @@ use Rattle.fewest_planner.specs.FewestCall.{fewestVerdict, PromisedFewest}
 use Rattle.fewest_planner.proofs.ReadLaws.{accepted-reads-enough}
 use Rattle.plan_requests.specs.PlanRequests.{Asked, askedSymbols}
 use Rattle.plan_sheets.specs.PlanSheets.{Plan, planIn, stepsOf}
-use Rattle.planning.specs.Demand3.{WouldBeAccepted, SomePlanAccepted, GoodPlan}
+use Rattle.planning.specs.Demand3.{WouldBeAccepted, GoodPlan}
 use Rattle.planning.specs.InnerWork.{Workable}
 use Rattle.planning.specs.Planning.{Found, APlan, APatterns}
-use Rattle.plans.specs.Judgement.{survives, lost, wantedOf}
+use Rattle.plans.specs.Judgement.{survives, wantedOf}
 use Rattle.plans.proofs.JudgementLaws.{fine-if-deserves, survives-below}
 use Rattle.gf2.specs.Plans.{Within, readByAny}
 use Rattle.refusals.specs.Orders.{Fine, Answer, Gives, Refuses}

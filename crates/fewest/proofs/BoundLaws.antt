@@ -1,8 +1,8 @@
 -- The bound of the search: images are spread without a change to what they say; disjoint images with a wanted symbol need a symbol each. Assumes nothing.
 use mathlib.Core.Path.{_≡_, refl, sym, ap, ap₂, _∙_, subst}
-use mathlib.Core.Bool.{Bool, true, false, cond, _&&_, _||_, true≢false}
+use mathlib.Core.Bool.{Bool, true, false, _&&_, _||_, true≢false}
 use mathlib.Core.List.{List}
-use Prim.Native.Nat.{ℕ, zero, suc, _+_, _^_, _≤_, _<_}
+use Prim.Native.Nat.{ℕ, _+_, _^_, _≤_, _<_}
 use native.Mathlib.Decide.{decLe}
 use native.Mathlib.Omega.{arith}
 use lib.Bits.{bitAnd, bitOr, bitXor, xor-zero-r}
@@ -11,17 +11,16 @@ use lib.ListN.{length, getD, set}
 use lib.Seq.{getD-set-same, getD-set-other}
 use borrow.Author.Tests.{eqb-true, eqb-false}
 use Rattle.bits.specs.BitSets.{has, overlap, scale}
-use Rattle.bits.specs.Lists.{countFrom}
 use Rattle.bits.specs.Numerals.{setWidth}
 use Rattle.bits.proofs.Booleans.{bool-cases, and-left, and-right, and-true-if-both, or-true-if-left, or-true-if-right}
 use Rattle.bits.proofs.CountLaws.{countFrom-apart, countFrom-some}
-use Rattle.bits.proofs.OverlapLaws.{overlap-comm, overlap-xor-left, even-if-not-odd}
+use Rattle.bits.proofs.OverlapLaws.{overlap-comm, overlap-xor-left}
 use Rattle.bits.proofs.XorLaws.{scale-zero}
 use Rattle.bits.proofs.SetLaws.{has-common, has-union, has-above, has-empty, has-by-overlap}
 use Rattle.gf2.specs.InnerElimination.{reducePattern}
 use Rattle.gf2.specs.Plans.{Within}
 use Rattle.fewest.specs.InnerFewest.{Enough, size, Avoids, Image, Images, Meets, Needed}
-use Rattle.fewest.proofs.ImageLaws.{even-if-lacks, odd-if-has, overlap-reduced, image-sum, image-scaled, enough-avoids-wanted, nothing-shared-if-avoids}
+use Rattle.fewest.proofs.ImageLaws.{even-if-lacks, overlap-reduced, image-sum, image-scaled, enough-avoids-wanted, nothing-shared-if-avoids}
 
 -- ------------------------------------------------------------------
 -- One image added to the others

@@ -2,7 +2,7 @@
 use mathlib.Core.Path.{_≡_, refl, sym, ap, ap₂, _∙_, subst}
 use mathlib.Core.Bool.{Bool, true, false, _&&_, _||_, true≢false}
 use mathlib.Core.List.{List, [], _∷_}
-use Prim.Native.Nat.{ℕ, zero, suc, _/_, _%_, _^_, _<_, _≤_}
+use Prim.Native.Nat.{ℕ, zero, suc, _^_, _<_}
 use native.Mathlib.Omega.{arith}
 use lib.Bits.{bitAnd, bitXor, xor-zero-r, xor-self, and-le-r}
 use lib.Dec.{eqb}
@@ -11,13 +11,13 @@ use borrow.Author.Tests.{eqb-true, eq-eqb}
 use Rattle.bits.specs.BitSets.{has, with, overlap, scale}
 use Rattle.bits.proofs.Booleans.{bool-cases}
 use Rattle.bits.proofs.XorLaws.{xor-assoc, scale-zero}
-use Rattle.bits.proofs.OverlapLaws.{overlap-cases, overlap-comm, overlap-zero-left, overlap-zero-right, overlap-xor-left, overlap-xor-right, overlap-scale-left, overlap-scale-right, overlap-scale-comm, even-if-not-odd, unit-half, unit-low-bit, zero-if-units-even}
+use Rattle.bits.proofs.OverlapLaws.{overlap-cases, overlap-comm, overlap-zero-left, overlap-xor-left, overlap-xor-right, overlap-scale-left, overlap-scale-right, overlap-scale-comm, even-if-not-odd, unit-half, unit-low-bit, zero-if-units-even}
 use Rattle.bits.proofs.SetLaws.{has-by-overlap, has-common, has-with, has-empty}
 use Rattle.gf2.specs.InnerElimination.{reducePattern, reduceRow}
 use Rattle.gf2.specs.Plans.{Within}
-use Rattle.gf2.specs.Selection.{select, Below, Linear}
-use Rattle.gf2.proofs.SelectionLaws.{select-linear, select-below}
-use Rattle.fewest.specs.InnerFewest.{EvenOnSet, Enough, Avoids, Image, Images}
+use Rattle.gf2.specs.Selection.{select}
+use Rattle.gf2.proofs.SelectionLaws.{select-linear}
+use Rattle.fewest.specs.InnerFewest.{Enough, Avoids, Image, Images}
 
 -- ------------------------------------------------------------------
 -- Units

@@ -10,7 +10,7 @@ use lib.Bits.{bitAnd, bitXor, xor-zero-r}
 use lib.Dec.{eqb, ltb}
 use lib.ListN.{length, getD, set, take, List·getD-eq-default}
 use lib.Seq.{getD-take, getD-set-same, getD-set-other, length-take-le}
-use borrow.Author.Tests.{lt-ltb, le-ltb, eqb-true, eqb-false, eq-eqb}
+use borrow.Author.Tests.{lt-ltb, le-ltb, eqb-true, eqb-false}
 use Rattle.bits.specs.BitSets.{has, with, overlap, scale}
 use Rattle.bits.specs.Numerals.{setWidth}
 use Rattle.bits.proofs.OverlapLaws.{overlap-comm, overlap-zero-left, overlap-zero-right, overlap-xor-right, overlap-scale-right, overlap-step, overlap-one, overlap-unit-suc, zero-if-units-even}

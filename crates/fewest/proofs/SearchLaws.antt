@@ -15,13 +15,13 @@ use borrow.Author.Tests.{lt-ltb, eqb-true, eq-eqb}
 use Rattle.bits.specs.BitSets.{has, with, below, count, overlap}
 use Rattle.bits.specs.Lists.{countFrom, firstFrom}
 use Rattle.bits.specs.Numerals.{setWidth}
-use Rattle.bits.proofs.Booleans.{bool-cases, and-left, and-right, or-true-if-left, or-true-if-right}
+use Rattle.bits.proofs.Booleans.{and-left, and-right, or-true-if-left, or-true-if-right}
 use Rattle.bits.proofs.CountLaws.{countFrom-within, count-is-countFrom}
 use Rattle.bits.proofs.SearchLaws.{firstFrom-holds, none-if-firstFrom-behind}
 use Rattle.bits.proofs.SetLaws.{has-with, has-sum, has-unit, has-above, has-below, has-common, has-empty}
 use Rattle.gf2.specs.InnerElimination.{reducePattern}
 use Rattle.gf2.specs.Plans.{Within}
-use Rattle.fewest.specs.InnerFewest.{Enough, size, Fewest, Avoids, Image, Images, either, Searched}
+use Rattle.fewest.specs.InnerFewest.{Enough, size, Fewest, Avoids, Images, either, Searched}
 use Rattle.fewest.proofs.ImageLaws.{odd-if-has, even-if-lacks, enough-with-more, enough-avoids-wanted, enough-if-all-avoid, images-taken}
 
 -- ------------------------------------------------------------------

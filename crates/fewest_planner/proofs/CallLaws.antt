@@ -2,12 +2,11 @@
 use mathlib.Core.Path.{_≡_, refl, sym, ap, _∙_, subst}
 use mathlib.Core.List.{List}
 use Prim.Native.Nat.{ℕ, _-_, _^_, _≤_}
-use native.Mathlib.Omega.{arith}
 use lib.Dec.{ltb}
 use lib.ListN.{length}
 use lib.Pow.{pow-mono}
 use borrow.Author.Tests.{ltb-false}
-use Rattle.codes.specs.Codes.{LinearCode, WithinLimits}
+use Rattle.codes.specs.Codes.{WithinLimits}
 use Rattle.codes.specs.Layouts.{symbolsOf}
 use Rattle.codes.specs.declared.Layout.{Layout}
 use Rattle.code_sheets.specs.CodeReading.{CodeRead, reading}
@@ -20,7 +19,7 @@ use Rattle.planning.specs.InnerWork.{Workable, Worked}
 use Rattle.planning.proofs.CallLaws.{workable-if-fine, promised-if-fine}
 use Rattle.planning.proofs.StripLaws.{count-survivors}
 use Rattle.fewest_planner.specs.FewestReads.{FewestReads, survivorCount}
-use Rattle.refusals.specs.Orders.{Outcome, Fine, Refused, Answer, Gives, Refuses, orIf, andThen}
+use Rattle.refusals.specs.Orders.{Outcome, Fine, Refused, Answer, Refuses, orIf, andThen}
 use Rattle.refusals.specs.Refusals.{Numbered, _at_}
 use Rattle.refusals.proofs.OrderLaws.{refusal-stands, orders-join, fine-means-none-holds, none-holds-first, none-holds-second, none-holds-means-fine, refused-is-not-fine}
 use Rattle.fewest_planner.specs.FewestCall.{survivorFaults, fewestFaults, fewestVerdict, PromisedFewest}

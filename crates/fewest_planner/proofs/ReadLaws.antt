@@ -2,7 +2,7 @@
 use mathlib.Core.Path.{_≡_, refl, sym, ap, _∙_, subst, fun-ext}
 use mathlib.Core.Bool.{Bool, true, false, _&&_, _||_, true≢false}
 use mathlib.Core.List.{List, [], _∷_}
-use Prim.Native.Nat.{ℕ, _+_, _-_, _^_, _≤_, _<_}
+use Prim.Native.Nat.{ℕ, _+_, _-_, _^_, _≤_}
 use native.Mathlib.Omega.{arith}
 use lib.Dec.{eqb}
 use lib.ListN.{getD, take}
@@ -13,7 +13,7 @@ use Rattle.bits.specs.Numerals.{setWidth}
 use Rattle.bits.proofs.Booleans.{bool-cases, and-left, and-right, and-true-if-both, or-true-if-left, or-true-if-right}
 use Rattle.bits.proofs.CountLaws.{countFrom-enough}
 use Rattle.codes.specs.Codes.{LinearCode, symbols, matrix}
-use Rattle.fewest.specs.InnerFewest.{EvenOnSet, Enough, size, Fewest}
+use Rattle.fewest.specs.InnerFewest.{Enough, size, Fewest}
 use Rattle.gf2.specs.Plans.{target, reads, readByAny, Within, extend, ready, filledAfter, UsesOnlyKnown, done, next, Accepted}
 use Rattle.gf2.specs.declared.Step.{Step}
 use Rattle.gf2.specs.declared.Step.the-variants.{Clear, Copy, Add}
@@ -28,7 +28,7 @@ use Rattle.planning.specs.InnerWork.{Workable, PatternShown, WorkedFrom, Worked
 use Rattle.planning.proofs.ResultLaws.{all-known, worked-from-all}
 use Rattle.planning.proofs.WorkLaws.{asked-is-lost, few-read}
 use Rattle.refusals.specs.Orders.{Answer, Gives, Refuses}
-use Rattle.fewest_planner.specs.FewestReads.{readCount, survivorCount, NoneReadsFewer, FewestReads}
+use Rattle.fewest_planner.specs.FewestReads.{survivorCount, NoneReadsFewer, FewestReads}
 
 -- ------------------------------------------------------------------
 -- What the steps read is all that they need

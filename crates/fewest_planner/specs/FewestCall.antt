@@ -11,8 +11,8 @@ use Rattle.plan_requests.specs.PlanRequests.{Asked, planningFaults}
 use Rattle.planning.specs.Planning.{Found, BufferLeft}
 use Rattle.planning.specs.Demand3.{Promised}
 use Rattle.fewest_planner.specs.FewestReads.{FewestReads, survivorCount}
-use Rattle.refusals.specs.Orders.{Outcome, Fine, Answer, Fault, _gets_, andThen, outcomeOf}
 use Rattle.refusals.specs.Refusals.{_at_}
+use Rattle.refusals.specs.Orders.{Outcome, Fine, Answer, Fault, _gets_, andThen, outcomeOf}
 
 -- 41: more than 16 symbols survive; the place is their number
 abbrev pub survivorFaults : Layout → List ℕ → List Fault

@@ -1,8 +1,7 @@
 -- `fewest::search` meets its contract: where it ends, and from its two branches. The measure is how many symbols may be taken. Assumes nothing.
-use mathlib.Core.Path.{_≡_, refl, sym, ap, ap₂, _∙_, subst}
+use mathlib.Core.Path.{_≡_, sym, ap, _∙_, subst}
 use native.Mathlib.Omega.{arith}
-use lib.Bits.{bitAnd, bitXor, xor-lt}
-use lib.ListN.{getD}
+use lib.Bits.{bitXor, xor-lt}
 use lib.Pow.{pow-lt}
 use Rattle.bits.specs.BitSets.{has, with, count}
 use Rattle.bits.specs.Numerals.{setWidth, numeral, numerals}

@@ -1,19 +1,13 @@
 -- `fewest::column` meets its contract. The invariant: the rows before s have their bits in the column. Assumes nothing.
-use mathlib.Core.Path.{_≡_, refl, sym, ap, _∙_}
-use mathlib.Core.Bool.{true, false}
-use mathlib.Core.List.{List}
+use mathlib.Core.Path.{_≡_, sym, ap, _∙_}
 use mathlib.Core.Logic.{⊎-elim}
-use Prim.Native.Nat.{ℕ, _+_, _-_, _^_, _≤_, _<_}
+use Prim.Native.Nat.{_-_, _≤_}
 use native.Mathlib.Omega.{arith}
-use lib.ListN.{length, getD, set, length-set}
-use borrow.Author.Tests.{not-true, not-false, eqb-true, eqb-false}
-use Rattle.bits.specs.BitSets.{has, with}
-use Rattle.bits.specs.Numerals.{setWidth, numeral, numerals}
-use Rattle.bits.proofs.NumeralLaws.{array-length, length-numerals, getD-numerals, numerals-set}
-use Rattle.gf2.specs.InnerElimination.{reducePattern}
-use Rattle.fewest.specs.InnerFewest.{Avoids}
-use Rattle.fewest.proofs.ImageLaws.{odd-if-has, even-if-lacks, avoids-if-nothing-shared, nothing-shared-if-avoids}
-use Rattle.fewest.proofs.LoopLaws.{ColumnTo, column-none, column-with, column-without, column-all, MappedTo, mapped-none, mapped-next, mapped-stored, mapped-kept, mapped-entry}
+use lib.ListN.{set}
+use Rattle.bits.specs.BitSets.{has}
+use Rattle.bits.specs.Numerals.{numeral, numerals}
+use Rattle.bits.proofs.NumeralLaws.{array-length, length-numerals, getD-numerals}
+use Rattle.fewest.proofs.LoopLaws.{ColumnTo, column-none, column-with, column-without, column-all}
 use Rattle.fewest.proofs.column.Statement.{statement}
 use Rattle.fewest.proofs.column.Tie as tie
 

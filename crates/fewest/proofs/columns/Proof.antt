@@ -1,11 +1,11 @@
 -- `fewest::columns` meets its contract. The invariant: the first i columns are stored. Assumes nothing.
-use mathlib.Core.Path.{_≡_, refl, sym, ap, _∙_}
+use mathlib.Core.Path.{_≡_, ap, _∙_}
 use mathlib.Core.List.{List}
-use Prim.Native.Nat.{ℕ, _+_, _-_, _≤_, _<_}
+use Prim.Native.Nat.{ℕ, _-_, _≤_, _<_}
 use native.Mathlib.Omega.{arith}
-use lib.ListN.{length, getD, set, take, length-set, length-replicate}
+use lib.ListN.{length, getD, take, length-set, length-replicate}
 use Rattle.bits.specs.BitSets.{has}
-use Rattle.bits.specs.Numerals.{setWidth, numeral, numerals}
+use Rattle.bits.specs.Numerals.{setWidth, numerals}
 use Rattle.bits.proofs.NumeralLaws.{numerals-set}
 use Rattle.fewest.proofs.LoopLaws.{entries-more}
 use Rattle.fewest.proofs.columns.Statement.{statement}

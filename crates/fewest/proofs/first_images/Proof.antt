@@ -1,10 +1,10 @@
 -- `fewest::first_images` meets its contract: the columns of the rows involved, spread, without the empty ones. Assumes nothing.
-use mathlib.Core.Path.{_≡_, sym, ap, _∙_, subst, fun-ext}
+use mathlib.Core.Path.{_≡_, ap, _∙_, subst, fun-ext}
 use mathlib.Core.Bool.{Bool}
 use mathlib.Core.List.{List}
 use Prim.Native.Nat.{ℕ, _<_}
 use native.Mathlib.Omega.{arith}
-use lib.ListN.{length, getD, take}
+use lib.ListN.{getD, take}
 use lib.Seq.{length-take-le}
 use borrow.Author.Needs.{needs}
 use Rattle.bits.specs.BitSets.{has}
@@ -15,7 +15,7 @@ use Rattle.gf2.specs.InnerSubsetPlans.{survivors}
 use Rattle.gf2.proofs.PlanningLaws.{survivors-below}
 use Rattle.solve.proofs.GatherLaws.{length-nonempty}
 use Rattle.solve.proofs.RowLaws.{take-known}
-use Rattle.fewest.specs.InnerFewest.{IsColumn, Images, either}
+use Rattle.fewest.specs.InnerFewest.{IsColumn, either}
 use Rattle.fewest.proofs.FirstImageLaws.{images-nonempty}
 use Rattle.fewest.proofs.LoopLaws.{columns-images}
 use Rattle.fewest.proofs.first_images.Statement.{statement}

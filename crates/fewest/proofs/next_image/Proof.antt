@@ -1,20 +1,13 @@
 -- `fewest::next_image` meets its contract. The invariant: of the first i images one that has a wanted symbol, or none has one. Assumes nothing.
-use mathlib.Core.Path.{_≡_, refl, sym, ap, _∙_}
-use mathlib.Core.Bool.{true, false}
-use mathlib.Core.List.{List}
+use mathlib.Core.Path.{sym, ap, _∙_}
 use mathlib.Core.Logic.{⊎-elim}
-use Prim.Native.Nat.{ℕ, _+_, _-_, _^_, _≤_, _<_}
+use Prim.Native.Nat.{ℕ, _-_, _≤_}
 use native.Mathlib.Omega.{arith}
 use lib.Dec.{eqb}
-use lib.ListN.{length, getD, set, length-set}
-use borrow.Author.Tests.{not-true, not-false, eqb-true, eqb-false}
-use Rattle.bits.specs.BitSets.{has, with}
-use Rattle.bits.specs.Numerals.{setWidth, numeral, numerals}
-use Rattle.bits.proofs.NumeralLaws.{array-length, length-numerals, getD-numerals, numerals-set}
-use Rattle.gf2.specs.InnerElimination.{reducePattern}
-use Rattle.fewest.specs.InnerFewest.{Avoids}
-use Rattle.fewest.proofs.ImageLaws.{odd-if-has, even-if-lacks, avoids-if-nothing-shared, nothing-shared-if-avoids}
-use Rattle.fewest.proofs.LoopLaws.{ColumnTo, column-none, column-with, column-without, column-all, MappedTo, mapped-none, mapped-next, mapped-stored, mapped-kept, mapped-entry, NextTo, next-start, next-found, next-kept, next-passed}
+use borrow.Author.Tests.{not-true, not-false}
+use Rattle.bits.specs.Numerals.{numeral, numerals}
+use Rattle.bits.proofs.NumeralLaws.{getD-numerals}
+use Rattle.fewest.proofs.LoopLaws.{NextTo, next-start, next-found, next-kept, next-passed}
 use Rattle.fewest.proofs.next_image.Statement.{statement}
 use Rattle.fewest.proofs.next_image.Tie as tie
 

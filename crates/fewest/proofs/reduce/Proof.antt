@@ -1,21 +1,18 @@
 -- `fewest::reduce` meets its contract. The invariant: the first i images are reduced. Assumes nothing.
-use mathlib.Core.Path.{_≡_, refl, sym, ap, _∙_}
-use mathlib.Core.Bool.{true, false}
+use mathlib.Core.Path.{_≡_, sym, ap, _∙_}
 use mathlib.Core.List.{List}
 use mathlib.Core.Logic.{⊎-elim}
-use Prim.Native.Nat.{ℕ, _+_, _-_, _^_, _≤_, _<_}
+use Prim.Native.Nat.{ℕ, _-_, _^_, _≤_}
 use native.Mathlib.Omega.{arith}
 use lib.Bits.{bitXor}
-use lib.ListN.{length, getD, set, length-set}
-use borrow.Author.Tests.{not-true, not-false, eqb-true, eqb-false}
-use Rattle.bits.specs.BitSets.{has, with}
+use lib.ListN.{length, getD, length-set}
+use Rattle.bits.specs.BitSets.{has}
 use Rattle.bits.specs.declared.BitSet.{BitSet}
 use Rattle.bits.specs.Numerals.{setWidth, numeral, numerals}
 use Rattle.bits.proofs.NumeralLaws.{array-length, length-numerals, getD-numerals, numerals-set}
 use Rattle.gf2.specs.InnerElimination.{reducePattern}
-use Rattle.fewest.specs.InnerFewest.{Avoids}
-use Rattle.fewest.proofs.ImageLaws.{odd-if-has, even-if-lacks, avoids-if-nothing-shared, nothing-shared-if-avoids}
-use Rattle.fewest.proofs.LoopLaws.{ColumnTo, column-none, column-with, column-without, column-all, MappedTo, mapped-none, mapped-next, mapped-stored, mapped-kept, mapped-entry, reduced-odd, reduced-even}
+use Rattle.fewest.proofs.ImageLaws.{odd-if-has, even-if-lacks}
+use Rattle.fewest.proofs.LoopLaws.{MappedTo, mapped-none, mapped-next, mapped-stored, mapped-kept, mapped-entry, reduced-odd, reduced-even}
 use Rattle.fewest.proofs.reduce.Statement.{statement}
 use Rattle.fewest.proofs.reduce.Tie as tie
 

@@ -8,7 +8,7 @@ use native.Mathlib.Omega.{arith}
 use lib.Bits.{bitXor}
 use lib.ListN.{length, getD, length-set}
 use Rattle.bits.specs.declared.BitSet.{BitSet}
-use Rattle.bits.specs.Numerals.{setWidth, numeral, numerals}
+use Rattle.bits.specs.Numerals.{setWidth, numerals}
 use Rattle.bits.proofs.NumeralLaws.{array-length, length-numerals, getD-numerals, numerals-set}
 use Rattle.gf2.specs.InnerElimination.{reducePattern}
 use Rattle.fewest.specs.InnerFewest.{Images}

@@ -1,21 +1,13 @@
 -- `fewest::with_image` meets its contract: an image that shares nothing with the used symbols needs a symbol of its own. Assumes nothing.
-use mathlib.Core.Path.{_≡_, refl, sym, ap, ap₂, _∙_, subst}
-use mathlib.Core.Bool.{Bool, true, false, _||_}
-use mathlib.Core.List.{List}
-use mathlib.Core.Logic.{⊎-elim}
-use Prim.Native.Nat.{ℕ, _+_, _-_, _^_, _≤_, _<_}
+use mathlib.Core.Path.{sym, ap, _∙_, subst}
+use Prim.Native.Nat.{ℕ, _+_, _-_}
 use native.Mathlib.Omega.{arith}
-use lib.Bits.{bitAnd, bitOr, bitXor}
+use lib.Bits.{bitAnd, bitOr}
 use lib.Dec.{eqb}
-use lib.ListN.{length, getD, set, length-set}
-use borrow.Author.Tests.{not-true, not-false, eqb-true, eqb-false}
-use Rattle.bits.specs.BitSets.{has}
-use Rattle.bits.specs.declared.BitSet.{BitSet}
-use Rattle.bits.specs.Numerals.{setWidth, numeral, numerals}
-use Rattle.bits.proofs.NumeralLaws.{array-length, length-numerals, getD-numerals, numerals-set}
-use Rattle.fewest.specs.InnerFewest.{Images, Meets, Needed}
-use Rattle.fewest.proofs.BoundLaws.{images-spread, needed-more, needed-none, needed-besides, image-meets, sum-meets}
-use borrow.Author.Needs.{needs}
+use borrow.Author.Tests.{not-false, eqb-true, eqb-false}
+use Rattle.bits.specs.Numerals.{numeral}
+use Rattle.fewest.specs.InnerFewest.{Needed}
+use Rattle.fewest.proofs.BoundLaws.{needed-more}
 use Rattle.fewest.proofs.with_image.Statement.{statement}
 use Rattle.fewest.proofs.with_image.Tie as tie
 

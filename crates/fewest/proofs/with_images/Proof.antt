@@ -1,20 +1,11 @@
 -- `fewest::with_images` meets its contract. The invariant: so many symbols are needed for the images before i. Assumes nothing.
-use mathlib.Core.Path.{_≡_, refl, sym, ap, ap₂, _∙_, subst}
-use mathlib.Core.Bool.{Bool, true, false, _||_}
-use mathlib.Core.List.{List}
-use mathlib.Core.Logic.{⊎-elim}
-use Prim.Native.Nat.{ℕ, _+_, _-_, _^_, _≤_, _<_}
+use mathlib.Core.Bool.{Bool}
+use Prim.Native.Nat.{ℕ, _-_, _≤_, _<_}
 use native.Mathlib.Omega.{arith}
-use lib.Bits.{bitAnd, bitOr, bitXor}
-use lib.Dec.{eqb}
-use lib.ListN.{length, getD, set, length-set}
-use borrow.Author.Tests.{not-true, not-false, eqb-true, eqb-false}
-use Rattle.bits.specs.BitSets.{has}
-use Rattle.bits.specs.declared.BitSet.{BitSet}
-use Rattle.bits.specs.Numerals.{setWidth, numeral, numerals}
-use Rattle.bits.proofs.NumeralLaws.{array-length, length-numerals, getD-numerals, numerals-set}
-use Rattle.fewest.specs.InnerFewest.{Images, Meets, Needed}
-use Rattle.fewest.proofs.BoundLaws.{images-spread, needed-more, needed-none, needed-besides, image-meets, sum-meets}
+use lib.ListN.{getD}
+use Rattle.bits.specs.Numerals.{numeral, numerals}
+use Rattle.bits.proofs.NumeralLaws.{getD-numerals}
+use Rattle.fewest.specs.InnerFewest.{Meets, Needed}
 use Rattle.fewest.proofs.with_images.Statement.{statement}
 use Rattle.fewest.proofs.with_images.Tie as tie
 

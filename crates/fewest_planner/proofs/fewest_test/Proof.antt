@@ -1,6 +1,6 @@
 -- `fewest_planner::fewest_test` meets its contract: planning's tests, then the number of survivors. Assumes nothing.
 use mathlib.Core.Path.{_≡_, refl, sym, ap, _∙_}
-use Prim.Native.Nat.{ℕ, _-_, _≤_}
+use Prim.Native.Nat.{ℕ, _-_}
 use native.Mathlib.Omega.{arith}
 use Rattle.bits.specs.BitSets.{count}
 use Rattle.bits.specs.Numerals.{numeral}
@@ -15,7 +15,7 @@ use Rattle.plans.proofs.JudgementLaws.{lost-at-most}
 use Rattle.planning.specs.InnerWork.{Workable}
 use Rattle.planning.proofs.CallLaws.{workable-if-fine}
 use Rattle.planning.proofs.ResultLaws.{disks-below}
-use Rattle.refusals.specs.Orders.{Outcome, outcome}
+use Rattle.refusals.specs.Orders.{outcome}
 use Rattle.fewest_planner.proofs.CallLaws.{refused-early, decided-by-survivors, survivors-counted}
 use Rattle.fewest_planner.proofs.fewest_test.Statement.{statement}
 use Rattle.fewest_planner.proofs.fewest_test.Tie as tie

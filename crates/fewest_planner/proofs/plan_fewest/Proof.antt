@@ -1,5 +1,5 @@
 -- `fewest_planner::plan_fewest` meets its contract: by its verdict, the refusal, or what the work answers and leaves. Assumes nothing.
-use mathlib.Core.Path.{refl, sym, ap, _∙_, subst}
+use mathlib.Core.Path.{refl, sym, ap, subst}
 use borrow.Author.Needs.{needs}
 use Rattle.code_sheets.specs.CodeReading.{asRead}
 use Rattle.plan_requests.specs.PlanRequests.{Asked, listedOnSet}

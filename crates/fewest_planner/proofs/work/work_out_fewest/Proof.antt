@@ -1,13 +1,13 @@
 -- `fewest_planner::work::work_out_fewest` meets its contract: the work from a smallest set of survivors that is enough. Assumes nothing.
-use mathlib.Core.Path.{_≡_, sym, ap, _∙_, subst}
-use Prim.Native.Nat.{ℕ, _≤_}
+use mathlib.Core.Path.{sym, _∙_, subst}
+use Prim.Native.Nat.{ℕ}
 use native.Mathlib.Omega.{arith}
 use lib.ListN.{take}
-use Rattle.bits.specs.Numerals.{setWidth, numeral, numerals}
+use Rattle.bits.specs.Numerals.{numeral}
 use Rattle.codes.specs.Codes.{LinearCode, linear}
 use Rattle.codes.proofs.LimitLaws.{layout-within}
 use Rattle.gf2.specs.Selection.{Below}
-use Rattle.plan_requests.specs.PlanRequests.{Asked, askedSymbols}
+use Rattle.plan_requests.specs.PlanRequests.{Asked}
 use Rattle.planning.specs.Planning.{asPlanned}
 use Rattle.planning.proofs.ResultLaws.{listed-small, disks-below}
 use Rattle.planning.proofs.WorkLaws.{asked-is-lost}
