@@ -30,7 +30,7 @@ pub struct Loss {
 }
 
 // The symbols of a disk.
-fn strip_of(layout: Layout, disk: usize) -> BitSet
+pub fn strip_of(layout: Layout, disk: usize) -> BitSet
     requires { ⌜ LayoutWithin layout × (disk < layout .disks) ⌝ }
     ensures strip { λ r. ⌜ ((s : ℕ) → has (numeral r) s ≡ eqb (diskOf layout s) disk) ⌝ }
     ensures small { λ r. ⌜ numeral r < 2 ^ setWidth ⌝ }

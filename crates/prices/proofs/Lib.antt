@@ -1,0 +1,3 @@
+pub mod FloatOrder
+pub mod PriceLaws
+pub mod KindLaws
