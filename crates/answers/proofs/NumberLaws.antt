@@ -37,6 +37,7 @@ use Rattle.refusals.specs.declared.Refusal.the-variants.{
   SheetBufferTooShort,
   NoSuchSymbol,
   TooManySurvivors,
+  BadDiskState,
 }
 
 -- Line by line of the table
@@ -72,6 +73,7 @@ not-numbered-0 NotInFamily = refl
 not-numbered-0 SheetBufferTooShort = refl
 not-numbered-0 NoSuchSymbol = refl
 not-numbered-0 (TooManySurvivors survivors) = refl
+not-numbered-0 (BadDiskState disk) = refl
 
 -- No refusal has number 0
 pub number-not-0 : (refusal : Refusal) → numbered refusal .number ≡ 0 → ⊥

@@ -188,6 +188,12 @@ enum-known-self-11 c = c .match .keys31
 at-requires-31 : tie.Need-at-requires-31
 at-requires-31 c κs = tt
 
+enum-known-self-12 : tie.Need-enum-known-self-12
+enum-known-self-12 c = c .match .keys32
+
+at-requires-32 : tie.Need-at-requires-32
+at-requires-32 c κs = tt
+
 returns : tie.Need-returns
 returns c = rw (c .before .enum-told .given .1) (c .at .ensures)
 
@@ -281,6 +287,9 @@ returns-30 c = rw (c .before .enum-told20 .given .1) (c .at30 .ensures)
 returns-31 : tie.Need-returns-31
 returns-31 c = rw (c .before .before .self11 .given .1) (c .at31 .ensures)
 
+returns-32 : tie.Need-returns-32
+returns-32 c = rw (c .before .before .self12 .given .1) (c .at32 .ensures)
+
 pub in-table-spec : {M : Type 1} → statement M
 in-table-spec =
     tie.close
@@ -347,6 +356,8 @@ in-table-spec =
     at-requires-30
     enum-known-self-11
     at-requires-31
+    enum-known-self-12
+    at-requires-32
     returns
     returns-2
     returns-3
@@ -377,4 +388,5 @@ in-table-spec =
     returns-28
     returns-29
     returns-30
-    returns-31)
+    returns-31
+    returns-32)
