@@ -1,8 +1,9 @@
 -- What solving gave for a code is what the laws of planning speak of. Assumes nothing.
 use mathlib.Core.Path.{_≡_, refl, sym, ap, ap₂, _∙_, subst, fun-ext}
-use mathlib.Core.Bool.{Bool, true, false, cond}
+use mathlib.Core.Bool.{Bool, true, false, cond, true≢false}
 use mathlib.Core.List.{List, [], _∷_, List·Memᴰ}
 use Prim.Native.Nat.{ℕ, _+_, _^_, _≤_, _<_}
+use native.Mathlib.Decide.{decLt}
 use native.Mathlib.Omega.{arith}
 use lib.Dec.{eqb}
 use lib.ListN.{length, getD, take}
@@ -10,6 +11,8 @@ use borrow.Author.Tests.{ltb-true, eqb-true, eqb-false}
 use Rattle.bits.specs.BitSets.{has}
 use Rattle.bits.specs.Lists.{symbolsIn}
 use Rattle.bits.specs.Numerals.{setWidth, padded}
+use Rattle.bits.proofs.ListLaws.{getD-tabulate-behind}
+use Rattle.bits.proofs.SetLaws.{has-empty}
 use Rattle.bits.proofs.PaddedLaws.{getD-padded, take-padded}
 use Rattle.codes.specs.Codes.{LinearCode, symbols, matrix}
 use Rattle.codes.proofs.LayoutLaws.{height-of-at-most}
@@ -18,6 +21,8 @@ use Rattle.elimination.specs.InnerPatterns.{unitPatterns, ZeroBehind}
 use Rattle.elimination.proofs.PatternLaws.{unitPatterns-zero-behind, remaining-zero-behind}
 use Rattle.gf2.specs.InnerElimination.{remaining, pivots}
 use Rattle.gf2.specs.InnerSubsetPlans.{survivors}
+use Rattle.gf2.specs.Plans.{Within}
+use Rattle.gf2.specs.Selection.{select}
 use Rattle.gf2.specs.declared.Step.{Step}
 use Rattle.gf2.proofs.SubsetPlanLaws.{planOf-same}
 use Rattle.plan_sheets.specs.PlanSheets.{listFrom, sectionsFor, headLength}
@@ -33,7 +38,7 @@ use Rattle.plan_requests.specs.PlanRequests.{Asked, askedSymbols, leastBuffer}
 use Rattle.planning.specs.Planning.{Found, APlan, APatterns}
 use Rattle.planning.specs.InnerWork.{Workable, RightSteps, SheetWritten, sheetOf, Chosen, PatternsFrom, WorkedFrom, Worked}
 use Rattle.planning.proofs.StripLaws.{lost-of-one}
-use Rattle.planning.proofs.WorkLaws.{targets, knownRows, patternsLeftBy, pivotsFrom, patternFoundBy, patternsGoneBy, subsetFrom, stepsFrom, asked-is-lost, target-wanted, shown-rules-plans-out, known-counted, steps-right-from, patterns-from}
+use Rattle.planning.proofs.WorkLaws.{targets, knownRows, patternsLeftBy, pivotsFrom, patternFoundBy, patternsGoneBy, subsetFrom, stepsFrom, asked-is-lost, target-wanted, shown-rules-plans-out, right-if-sums, known-counted, subset-alive, subset-sums, steps-right-from, patterns-from}
 
 -- The least buffer has room for a head and 1,024 steps
 head-room : (edition : ℕ) (disks list : List ℕ) → length disks ≤ 64 → length list ≤ 64 → (edition ≡ 2 → length list ≤ 32)
@@ -65,10 +70,25 @@ pub record EliminatedFor (code : LinearCode) (asked : Asked) (n known wanted : �
   pub found-are : take n found ≡ pivots (unitPatterns (code .data_symbols)) (rowsGiven code n known)
   pub left-are : left ≡ remaining (unitPatterns (code .data_symbols)) (rowsGiven code n known)
 
+-- Sets of survivors, one a symbol: a wanted symbol's sums to its row, another's is empty
+pub record RightSets (code : LinearCode) (asked : Asked) (sets : List ℕ) : Type 0 where
+  pub below : (t : ℕ) → getD sets t 0 < 2 ^ symbols code
+  pub alive : (t : ℕ) → Within (has (getD sets t 0)) (survives (code .layout) (asked .disks))
+  pub sums : (t : ℕ) → askedSymbols code asked t ≡ true → select (matrix code) (getD sets t 0) ≡ getD (matrix code) t 0
+  pub others-empty : (t : ℕ) → askedSymbols code asked t ≡ false → getD sets t 0 ≡ 0
+
 module _ (code : LinearCode) (asked : Asked) {room : ℕ} (workable : Workable code asked room) where
   -- Each number listed can be in a set
   pub listed-small : (i : ℕ) → i < length (asked .wanted) → getD (asked .wanted) i 0 < setWidth
   listed-small i h = omega (arith, lost-below (code .layout) (asked .disks) _ (workable .list-good .each-allowed i h), workable .within .symbols-to)
+
+  -- No symbol behind the last is wanted
+  not-wanted-behind : (t : ℕ) → symbols code ≤ t → askedSymbols code asked t ≡ false
+  not-wanted-behind t behind = by-wish (askedSymbols code asked t) refl
+    where
+      by-wish : (c : Bool) → askedSymbols code asked t ≡ c → c ≡ false
+      by-wish true is-wanted = absurd (omega (arith, lost-below (code .layout) (asked .disks) t (asked-is-lost code asked workable t is-wanted), behind))
+      by-wish false q = refl
 
   -- Each disk is one of the array's
   pub disks-below : (i : ℕ) → i < length (asked .disks) → getD (asked .disks) i 0 < code .layout .disks
@@ -97,6 +117,13 @@ module _ (code : LinearCode) (asked : Asked) {room : ℕ} (workable : Workable c
 
   -- ------------------------------------------------------------------
   -- A plan from sets of survivors, one a symbol, whichever they are
+
+  -- Where each wanted symbol's set sums to its row, the steps keep every rule of the check
+  pub sets-steps-right : (wanted : ℕ) (sets : List ℕ) → ((s : ℕ) → has wanted s ≡ askedSymbols code asked s) → RightSets code asked sets
+      → RightSteps code asked (sourceCount (symbols code) (subsetPlan (symbols code) (has wanted) sets)) (subsetPlan (symbols code) (has wanted) sets)
+  sets-steps-right wanted sets wanted-are right =
+      subst (λ (set : ℕ → Bool). RightSteps code asked (sourceCount (symbols code) (subsetPlan (symbols code) set sets)) (subsetPlan (symbols code) set sets))
+      (sym (fun-ext wanted-are)) (right-if-sums code asked workable (λ t. getD sets t 0) (right .below) (right .alive) (right .sums))
 
   module _ (wanted : ℕ) (sets : List ℕ) (below : (t : ℕ) → getD sets t 0 < 2 ^ symbols code) where
     module _ (right : RightSteps code asked (sourceCount (symbols code) (subsetPlan (symbols code) (has wanted) sets)) (subsetPlan (symbols code) (has wanted) sets)) where
@@ -208,6 +235,40 @@ module _ (code : LinearCode) (asked : Asked) {room : ℕ} (workable : Workable c
             subst (λ (subset : ℕ). subset < 2 ^ symbols code) (sym (are-solved t))
             (subst (λ (m : ℕ). getD asSolved t 0 < 2 ^ m) (known-counted code asked workable (has known) (given .chosen .known-survive))
             (subsets-below (pivotsFrom code (has known)) (knownRows code (has known)) (matrix code) (symbols code) (askedSymbols code asked) t))
+
+        -- They are sets of survivors that sum to the wanted rows
+        pub solved-right : RightSets code asked subsets
+        solved-right =
+            record {
+              below = are-below;
+              alive = λ t. by-wish t (askedSymbols code asked t) refl .0;
+              sums = λ t is-wanted. by-wish t true is-wanted .1 refl;
+              others-empty = λ t not-wanted. entry t ∙ ap (λ (c : Bool). cond c (subsetFrom code (has known) t) 0) not-wanted;
+            }
+          where
+            entry : (t : ℕ) → getD subsets t 0 ≡ cond (askedSymbols code asked t) (subsetFrom code (has known) t) 0
+            entry t = are-solved t ∙ by-side (decLt t (symbols code))
+              where
+                by-side : Dec (t < symbols code) → getD asSolved t 0 ≡ cond (askedSymbols code asked t) (subsetFrom code (has known) t) 0
+                by-side (yes h) = getD-subsets (pivotsFrom code (has known)) (knownRows code (has known)) (matrix code) (symbols code) (askedSymbols code asked) t h
+                by-side (no h) =
+                    getD-tabulate-behind (symbols code) (λ u. cond (askedSymbols code asked u) (subsetFrom code (has known) u) 0) t (omega arith)
+                    ∙ sym (ap (λ (c : Bool). cond c (subsetFrom code (has known) t) 0) (not-wanted-behind t (omega arith)))
+
+            by-wish : (t : ℕ) (wish : Bool) → askedSymbols code asked t ≡ wish
+                → Within (has (getD subsets t 0)) (survives (code .layout) (asked .disks)) × (wish ≡ true → select (matrix code) (getD subsets t 0) ≡ getD (matrix code) t 0)
+            by-wish t true is-wanted =
+                let same = entry t ∙ ap (λ (c : Bool). cond c (subsetFrom code (has known) t) 0) is-wanted in (
+                  subst (λ (set : ℕ). Within (has set) (survives (code .layout) (asked .disks))) (sym same) (subset-alive code asked workable (has known) (given .chosen .known-survive) t),
+                  λ yes.
+                      ap (select (matrix code)) same
+                      ∙ subset-sums code asked workable (has known) (given .chosen .known-survive) (sym is-found ∙ eqb-true pattern 0 none) t is-wanted,
+                )
+            by-wish t false not-wanted =
+                let same = entry t ∙ ap (λ (c : Bool). cond c (subsetFrom code (has known) t) 0) not-wanted in (
+                  subst (λ (set : ℕ). Within (has set) (survives (code .layout) (asked .disks))) (sym same) (λ s h. absurd (true≢false (sym h ∙ has-empty s))),
+                  λ no. absurd (true≢false (sym no)),
+                )
 
         -- They fit the sheet and the buffer
         pub plan-fits : PlanFits (asked .edition) (code .layout) (code .data_symbols) (asked .disks) (asked .wanted) (has wanted) subsets room
