@@ -36,7 +36,7 @@ use Rattle.solve.specs.InnerSolving.{oddPattern, wantedSubsets}
 use Rattle.solve.proofs.RowLaws.{getD-subsets, subsets-below}
 use Rattle.plan_requests.specs.PlanRequests.{Asked, askedSymbols, leastBuffer}
 use Rattle.planning.specs.Planning.{Found, APlan, APatterns}
-use Rattle.planning.specs.InnerWork.{Workable, RightSteps, SheetWritten, sheetOf, Chosen, PatternsFrom, WorkedFrom, Worked}
+use Rattle.planning.specs.InnerWork.{Workable, RightSets, RightSteps, SheetWritten, sheetOf, Chosen, PatternsFrom, WorkedFrom, Worked}
 use Rattle.planning.proofs.StripLaws.{lost-of-one}
 use Rattle.planning.proofs.WorkLaws.{targets, knownRows, patternsLeftBy, pivotsFrom, patternFoundBy, patternsGoneBy, subsetFrom, stepsFrom, asked-is-lost, target-wanted, shown-rules-plans-out, right-if-sums, known-counted, subset-alive, subset-sums, steps-right-from, patterns-from}
 
@@ -69,13 +69,6 @@ pub record EliminatedFor (code : LinearCode) (asked : Asked) (n known wanted : �
   pub surviving-are : take n surviving ≡ rowsGiven code n known
   pub found-are : take n found ≡ pivots (unitPatterns (code .data_symbols)) (rowsGiven code n known)
   pub left-are : left ≡ remaining (unitPatterns (code .data_symbols)) (rowsGiven code n known)
-
--- Sets of survivors, one a symbol: a wanted symbol's sums to its row, another's is empty
-pub record RightSets (code : LinearCode) (asked : Asked) (sets : List ℕ) : Type 0 where
-  pub below : (t : ℕ) → getD sets t 0 < 2 ^ symbols code
-  pub alive : (t : ℕ) → Within (has (getD sets t 0)) (survives (code .layout) (asked .disks))
-  pub sums : (t : ℕ) → askedSymbols code asked t ≡ true → select (matrix code) (getD sets t 0) ≡ getD (matrix code) t 0
-  pub others-empty : (t : ℕ) → askedSymbols code asked t ≡ false → getD sets t 0 ≡ 0
 
 module _ (code : LinearCode) (asked : Asked) {room : ℕ} (workable : Workable code asked room) where
   -- Each number listed can be in a set

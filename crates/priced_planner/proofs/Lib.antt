@@ -1,0 +1,6 @@
+pub mod SymbolListLaws
+pub mod AwayLaws
+pub mod RequestLaws
+pub mod SwapPlanLaws
+pub mod PricedLaws
+pub mod CallLaws

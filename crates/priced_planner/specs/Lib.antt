@@ -1,0 +1,2 @@
+pub mod PricedPlanner
+pub mod InnerPriced
