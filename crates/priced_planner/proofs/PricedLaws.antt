@@ -38,6 +38,15 @@ module _ (code : LinearCode) (asked : Asked) {room : ℕ} (workable : Workable c
   pub wanted-below : PlacesBelow (symbols code) (has (numeral wanted))
   wanted-below s h = swaps-plan.wanted-below code asked workable s (sym (begins .wanted-are s) ∙ h)
 
+  steps-right : {sets : List ℕ} → RightSets code asked sets
+      → RightSteps code asked (sourceCount (symbols code) (subsetPlan (symbols code) (has (numeral wanted)) sets)) (subsetPlan (symbols code) (has (numeral wanted)) sets)
+  steps-right {sets} = sets-steps-right code asked workable (numeral wanted) sets (begins .wanted-are)
+
+  -- The steps from right sets fit the sheet and the buffer
+  pub sets-fit : {sets : List ℕ} → RightSets code asked sets
+      → PlanFits (asked .edition) (code .layout) (code .data_symbols) (asked .disks) (asked .wanted) (has (numeral wanted)) sets room
+  sets-fit {sets} right = fits-if-right code asked workable (numeral wanted) sets (right .below) (steps-right right)
+
   equations-right : EquationsFor code (asked .disks) (survivorEquations code (asked .disks))
   equations-right = subst (EquationsFor code (asked .disks)) (held .are) (held .right)
 
@@ -54,15 +63,8 @@ module _ (code : LinearCode) (asked : Asked) {room : ℕ} (workable : Workable c
         Settled (record { layout = code .layout; states = states; equations = take (equations .count) (numerals (equations .sets)); wanted = set }) (numerals start) final sum swaps settled)
         (fun-ext (begins .wanted-are)) settling)
 
-    sets-right : RightSets code asked final
+    pub sets-right : RightSets code asked final
     sets-right = swaps-plan.final-right code asked workable equations-right states (begins .right) settled-so
-
-    steps-right : RightSteps code asked (sourceCount (symbols code) (subsetPlan (symbols code) (has (numeral wanted)) final)) (subsetPlan (symbols code) (has (numeral wanted)) final)
-    steps-right = sets-steps-right code asked workable (numeral wanted) final (begins .wanted-are) sets-right
-
-    -- The steps from the final sets fit the sheet and the buffer
-    pub final-fits : PlanFits (asked .edition) (code .layout) (code .data_symbols) (asked .disks) (asked .wanted) (has (numeral wanted)) final room
-    final-fits = fits-if-right code asked workable (numeral wanted) final (sets-right .below) steps-right
 
     -- A sheet written from them keeps the promise
     pub priced-sheet : {sheetBytes reads : ℕ} {before after : List ℕ} → reads ≡ sourceCount (symbols code) (subsetPlan (symbols code) (has (numeral wanted)) final)
@@ -71,7 +73,7 @@ module _ (code : LinearCode) (asked : Asked) {room : ℕ} (workable : Workable c
         → PricedSheet code asked states sheetBytes reads sum settled before after
     priced-sheet reads-are length-is first-sheet =
         record {
-          written = written-if-right code asked workable (numeral wanted) final (sets-right .below) steps-right reads-are length-is first-sheet;
+          written = written-if-right code asked workable (numeral wanted) final (sets-right .below) (steps-right sets-right) reads-are length-is first-sheet;
           by-swaps =
               subst (λ (set : ℕ → Bool). BySwaps code asked states (subsetPlan (symbols code) set final) sum settled) (sym (fun-ext (begins .wanted-are)))
               (swaps-plan.steps-by-swaps code asked workable equations-right states (begins .right) settled-so (begins .steps-are));

@@ -22,6 +22,10 @@ module _ (layout : Layout) (asked : Asked) (states : List DiskState) (bufferLeng
   planning-fine fine = fine-means-none-holds (andThen read (planningFaults layout asked bufferLength)) (stateFaults layout states) (sym by-parts ∙ fine) .0
 
   module _ {tested : Outcome} (is-tested : tested ≡ andThen read (planningFaults layout asked bufferLength)) where
+    -- Where nothing is refused so far, the code sheet is fine
+    pub read-fine : tested ≡ Fine → read ≡ Fine
+    read-fine fine = fine-means-none-holds read (planningFaults layout asked bufferLength) (sym is-tested ∙ fine) .0
+
     -- What planning refuses stays refused
     pub refused-earlier : (refusal : Numbered) → tested ≡ Refused refusal → tested ≡ andThen read (pricedFaults layout asked states bufferLength)
     refused-earlier refusal refused =

@@ -1,10 +1,9 @@
 -- `priced_planner::requests::priced_test` meets its contract: planning's tests, then the states. Assumes nothing.
-use mathlib.Core.Path.{sym, ap, _∙_}
+use mathlib.Core.Path.{ap, _∙_}
 use borrow.Author.Needs.{needs}
-use Rattle.plan_requests.specs.PlanRequests.{Asked, listedOnSet, planningFaults}
+use Rattle.plan_requests.specs.PlanRequests.{Asked, listedOnSet}
 use Rattle.refusals.specs.Orders.{outcome}
-use Rattle.refusals.proofs.OrderLaws.{fine-means-none-holds}
-use Rattle.priced_planner.proofs.RequestLaws.{refused-earlier, state-last}
+use Rattle.priced_planner.proofs.RequestLaws.{read-fine, refused-earlier, state-last}
 use Rattle.priced_planner.proofs.requests.priced_test.Statement.{statement}
 use Rattle.priced_planner.proofs.requests.priced_test.Tie as tie
 
@@ -32,9 +31,10 @@ first-bad-state-requires : tie.Need-first-bad-state-requires
 first-bad-state-requires c κs =
     let start = c .before .before .before .before .before .before .before in
     let a = start .args in
-    let read = fine-means-none-holds (outcome (a .reading .verdict)) (planningFaults (a .reading .code .layout) (askedOf start) (a .buffer-length))
-    (sym (c .before .before .plan-test .ensures) ∙ ap outcome (c .enum-told .given .1)) in
-    start .pre (read .0) .disks-to
+    start .pre
+    (read-fine (a .reading .code .layout) (askedOf start) (a .states) (a .buffer-length) (outcome (a .reading .verdict)) (c .before .before .plan-test .ensures)
+    (ap outcome (c .enum-told .given .1)))
+    .disks-to
 
 or-if-requires : tie.Need-or-if-requires
 or-if-requires c κs = search needs

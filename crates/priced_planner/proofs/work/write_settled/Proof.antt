@@ -3,7 +3,7 @@ use borrow.Author.Needs.{needs}
 use Rattle.codes.specs.Codes.{LinearCode, linear}
 use Rattle.codes.proofs.LimitLaws.{layout-within}
 use Rattle.plan_requests.specs.PlanRequests.{Asked, listedOnSet}
-use Rattle.priced_planner.proofs.PricedLaws.{as-answered, wanted-below, final-fits, priced-sheet}
+use Rattle.priced_planner.proofs.PricedLaws.{as-answered, wanted-below, sets-fit, sets-right, priced-sheet}
 use Rattle.priced_planner.proofs.work.write_settled.Statement.{statement}
 use Rattle.priced_planner.proofs.work.write_settled.Tie as tie
 
@@ -32,7 +32,8 @@ write-plan-requires c κs =
     let settled = c .before .before in
     let began = start settled in
     let a = began .args in
-    final-fits (codeOf began) (askedOf began) (began .pre .0) (a .equations) (began .pre .1) (a .wanted) (a .start) (began .pre .2) (a .states) (settled .settle .ensures)
+    sets-fit (codeOf began) (askedOf began) (began .pre .0) (a .equations) (began .pre .1) (a .wanted) (a .start) (began .pre .2)
+    (sets-right (codeOf began) (askedOf began) (began .pre .0) (a .equations) (began .pre .1) (a .wanted) (a .start) (began .pre .2) (a .states) (settled .settle .ensures))
 
 without-patterns-requires : tie.Need-without-patterns-requires
 without-patterns-requires c κs = tt
