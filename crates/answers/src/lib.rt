@@ -21,6 +21,7 @@ use refusals::Verdict;
 use views::Part;
 
 pub mod survivors; // survivors.rt: what the tester for survivors answers
+pub mod priced; // priced.rt: what priced planning answers
 
 // Nothing refused, or the refusal: navorzim_verdict in C.
 #[repr(C)]
