@@ -4,7 +4,7 @@ ghost use lib.ListN.{length};
 ghost use Rattle.refusals.specs.Orders.{outcomeOf};
 ghost use Rattle.plan_requests.specs.PlanRequests.{wholeDisk, listedOn, listedOnSet, planningVerdict};
 ghost use Rattle.planning.specs.Planning.{asPlanned, BufferLeft};
-ghost use Rattle.planning.specs.Demand3.{Demand3, PlansWhereAnyCould, TellsGone, NothingGoneWherePlan, SamePatterns, RulesSayDemand2, Promised};
+ghost use Rattle.planning.specs.Demand3.{Demand3, PlansWhereAnyCould, TellsGone, NothingGoneWherePlan, SamePatterns, SameSteps, RulesSayDemand2, Promised};
 ghost use Rattle.plan_sheets.specs.InnerPlanSheets.{EditionFits};
 use code_sheets::read_code;
 use lists::disk_byte;
@@ -24,7 +24,8 @@ fn plan_asked(
     buffer: &mut [u8],
 ) -> PlanningAnswer
     requires { ⌜ EditionFits edition (now disks) (now wanted) ⌝ }
-    ensures { λ r. ⌜ Promised (now (sheet .entry)) (record { edition = edition; disks = now (disks .entry); wanted = now (wanted .entry) }) (now (buffer .entry)) (now (buffer .exit)) (asPlanned r) ⌝ }
+    ensures promised { λ r. ⌜ Promised (now (sheet .entry)) (record { edition = edition; disks = now (disks .entry); wanted = now (wanted .entry) }) (now (buffer .entry)) (now (buffer .exit)) (asPlanned r) ⌝ }
+    ensures steps { λ r. ⌜ SameSteps (now (sheet .entry)) (record { edition = edition; disks = now (disks .entry); wanted = now (wanted .entry) }) (now (buffer .exit)) (asPlanned r) ⌝ }
 {
     let reading = read_code(sheet);
     let code = reading.code;
@@ -76,6 +77,7 @@ pub fn plan_disks(sheet: &[u8], disks: &[u8], wanted: &[u8], buffer: &mut [u8]) 
     ensures none_gone { λ r. ⌜ NothingGoneWherePlan (now (sheet .entry)) (listedOnSet (now (disks .entry)) (now (wanted .entry))) (length (now (buffer .entry))) (asPlanned r) ⌝ }
     ensures patterns { λ r. ⌜ SamePatterns (now (sheet .entry)) (listedOnSet (now (disks .entry)) (now (wanted .entry))) (asPlanned r) ⌝ }
     ensures rules { λ r. ⌜ RulesSayDemand2 (now (sheet .entry)) (listedOnSet (now (disks .entry)) (now (wanted .entry))) (length (now (buffer .entry))) ⌝ }
+    ensures steps { λ r. ⌜ SameSteps (now (sheet .entry)) (listedOnSet (now (disks .entry)) (now (wanted .entry))) (now (buffer .exit)) (asPlanned r) ⌝ }
 {
     plan_asked(sheet, 3, disks, wanted, buffer)
 }

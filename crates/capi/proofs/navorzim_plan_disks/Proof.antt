@@ -23,10 +23,12 @@ same-length c = search needs
 
 returns : tie.Need-returns
 returns c =
+    let kept = c .before .before .before .plan-disks .ensures in
     let args = c .before .before .before .before .before .before .before .before .before .args in
     planning-out (args .sheet .now)
     (λ i. omega (arith, c .before .before .before .before .before .before .before .before .shared-slice-known .given i)) (listedOnSet (args .disks .now) (args .wanted .now)) (Third refl) (args .buffer .now) _
-    (c .before .before .before .plan-disks .result) (c .out-planned .ensures) (c .before .before .before .plan-disks .ensures)
+    (c .before .before .before .plan-disks .result) (c .out-planned .ensures)
+    (kept .0, (kept .1 .0, (kept .1 .1 .0, (kept .1 .1 .1 .0, (kept .1 .1 .1 .1 .0, (kept .1 .1 .1 .1 .1 .0, (kept .1 .1 .1 .1 .1 .1 .0, kept .1 .1 .1 .1 .1 .1 .1 .0)))))))
 
 pub navorzim-plan-disks-spec : {M : Type 1} → statement M
 navorzim-plan-disks-spec = tie.close (tie.spec plan-disks-requires out-planned-requires same-length returns)

@@ -12,8 +12,9 @@ same-length c = c .before .before .plan-asked .kept .1 .1 .1 .1 .0
 
 returns : tie.Need-returns
 returns c =
-    let promised = c .before .before .plan-asked .ensures in
-    (promised .refusal, (promised .buffer, (promised .demand3, (promised .exactly, (promised .gone, (promised .none-gone, (promised .patterns, promised .rules)))))))
+    let promised = c .before .before .plan-asked .ensures .0 in
+    let steps = c .before .before .plan-asked .ensures .1 in
+    (promised .refusal, (promised .buffer, (promised .demand3, (promised .exactly, (promised .gone, (promised .none-gone, (promised .patterns, (promised .rules, steps))))))))
 
 pub plan-disks-spec : {M : Type 1} → statement M
 plan-disks-spec = tie.close (tie.spec plan-asked-requires same-length returns)
