@@ -91,7 +91,7 @@ module _ (code : LinearCode) (disks list : List ℕ) (states : List DiskState) {
   asked-below d h = ltb-true d (layout .disks) (listed-passes disks (λ e. ltb e (layout .disks)) (workable .disks-good .each-allowed) d h)
 
   -- and it is lost with the away ones
-  asked-stays-lost : (d : ℕ) → listed disks d ≡ true → listed (lostDisks layout disks states) d ≡ true
+  pub asked-stays-lost : (d : ℕ) → listed disks d ≡ true → listed (lostDisks layout disks states) d ≡ true
   asked-stays-lost d h =
       listed-symbolsIn (isLost disks states (layout .disks)) (layout .disks) d
       ∙ and-true-if-both (ltb d (layout .disks)) (isLost disks states (layout .disks) d) (lt-ltb d (layout .disks) (asked-below d h))

@@ -17,6 +17,7 @@ use Rattle.refusals.specs.Refusals.{Numbered}
 use Rattle.refusals.proofs.OrderLaws.{refused-is-not-fine}
 use Rattle.priced_planner.specs.PricedPlanner.{pricedFaults, pricedVerdict, askedWithAway, PricedFound, APlan, APatterns, unpriced, BySwaps, PromisedPriced}
 use Rattle.priced_planner.specs.InnerPriced.{WorkedPriced}
+use Rattle.priced_planner.proofs.AvoidLaws.{some-with-away, planWithout, without-avoids}
 use Rattle.priced_planner.proofs.AwayLaws.{workable-with-away, wants-as-asked}
 use Rattle.priced_planner.proofs.RequestLaws.{planning-fine}
 
@@ -61,7 +62,11 @@ module _ (codeSheet disks list : List ℕ) (states : List DiskState) (before : L
         buffer = promised .buffer;
         wanted = λ q. wants-as-asked code disks list states workable;
         as-planning = λ q. promised;
-        exactly = λ q. (λ none. absurd none, λ no-plan. no-plan (some .plan) (some .accepted));
+        exactly =
+            λ q. (
+              λ none. absurd none,
+              λ none-avoids. none-avoids (planWithout code disks list states workable (some .plan) (some .accepted)) (without-avoids code disks list states workable (some .plan) (some .accepted)),
+            );
         by-swaps =
             subst (λ (steps : List Step). BySwaps code withAway states steps sum settled)
             (sym (steps-told codeSheet withAway before planning-takes code-good may after sheetBytes reads (worked .written))) (worked .by-swaps);
@@ -73,7 +78,13 @@ module _ (codeSheet disks list : List ℕ) (states : List DiskState) (before : L
         buffer = promised .buffer;
         wanted = λ q. wants-as-asked code disks list states workable;
         as-planning = λ q. promised;
-        exactly = λ q. (λ are. promised .demand3 .0, λ no-plan. tt);
+        exactly =
+            λ q. (
+              λ are plan avoiding.
+                  let some = some-with-away code disks list states workable plan avoiding in
+                  promised .demand3 .0 (some .plan) (some .accepted),
+              λ none-avoids. tt,
+            );
         by-swaps = tt;
       }
   priced-of fine (Refuses refusal) worked = absurd worked

@@ -1,5 +1,6 @@
 pub mod SymbolListLaws
 pub mod AwayLaws
+pub mod AvoidLaws
 pub mod RequestLaws
 pub mod SwapPlanLaws
 pub mod PricedLaws

@@ -19,7 +19,7 @@ use Rattle.bits.specs.Lists.{symbolsIn}
 use Rattle.bits.specs.Numerals.{numerals}
 use Rattle.code_sheets.specs.CodeReading.{reading}
 use Rattle.codes.specs.Codes.{LinearCode, symbols, matrix}
-use Rattle.codes.specs.Layouts.{symbolsOf}
+use Rattle.codes.specs.Layouts.{symbolsOf, diskOf}
 use Rattle.codes.specs.declared.Layout.{Layout}
 use Rattle.gf2.specs.Plans.{Within, readByAny}
 use Rattle.gf2.specs.Selection.{select}
@@ -27,8 +27,8 @@ use Rattle.gf2.specs.declared.Step.{Step}
 use Rattle.lists.specs.Lists.{listed}
 use Rattle.plan_requests.specs.PlanRequests.{Asked, listedOnSet, askedSymbols, planningFaults}
 use Rattle.plan_sheets.specs.InnerPlanSheets.{subsetPlan}
-use Rattle.plan_sheets.specs.PlanSheets.{planIn, stepsOf}
-use Rattle.planning.specs.Demand3.{NoPlanAccepted, Promised}
+use Rattle.plan_sheets.specs.PlanSheets.{Plan, planIn, stepsOf}
+use Rattle.planning.specs.Demand3.{WouldBeAccepted, Promised}
 use Rattle.planning.specs.InnerPlan.{stepsFound}
 use Rattle.planning.specs.Planning.{Found, BufferLeft}
 use Rattle.planning.specs.Planning as Planning
@@ -168,11 +168,17 @@ ArePatterns (Gives (APlan planLength reads sum settled)) = ⊥
 ArePatterns (Gives (APatterns patterns)) = Unit
 ArePatterns (Refuses refusal) = ⊥
 
--- Patterns are given exactly when no plan avoids the away disks: none of any length would be accepted with these lost too
+-- A plan of any length avoids the away disks: it would be accepted for what was asked, and reads no survivor that lies on a disk that is away
+pub record AvoidsAway (code : LinearCode) (asked : Asked) (states : List DiskState) (plan : Plan) : Type 0 where
+  pub accepted : WouldBeAccepted code asked plan
+  pub avoids : (s : ℕ) → survives (code .layout) (asked .disks) s ≡ true → readByAny s (stepsOf plan) ≡ true
+      → isAway (stateOf states (diskOf (code .layout) s)) ≡ false
+
+-- Patterns are given exactly when no plan avoids the away disks
 abbrev pub PatternsExactly : List ℕ → Asked → List DiskState → ℕ → Answer PricedFound → Type 0
 PatternsExactly codeSheet asked states bufferLength answer =
     pricedVerdict codeSheet asked states bufferLength ≡ Fine
-    → ArePatterns answer ↔ NoPlanAccepted (reading codeSheet .code) (askedWithAway (reading codeSheet .code) asked states)
+    → ArePatterns answer ↔ ((plan : Plan) → AvoidsAway (reading codeSheet .code) asked states plan → ⊥)
 
 -- A plan comes by swaps. Its steps are those that the sheet at the front of the buffer tells
 abbrev pub PricedBySwaps : List ℕ → Asked → List DiskState → List ℕ → Answer PricedFound → Type 0
