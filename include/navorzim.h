@@ -31,8 +31,12 @@
  *   buffer       where a code sheet is to be written                      as long as the sheet, or longer
  *                where a plan sheet is to be written                      3,081 bytes or more; with wanted symbols 3,114 or more;
  *                                                                         for a list of disks 3,210 or more
+ *   kinds        what each disk is, a byte each: 0 away, 1 idle, 2 busy   n bytes; what comes after them isn't looked at
+ *   prices       what a symbol of each disk costs, a double each          0 to 1,000,000, of disks that are idle or busy
+ *   factors      by how much more a busy disk costs, a double each        1 to 64, of disks that are busy
  *   index        which of several patterns or equations, from 0           any number
- *   .._length    the bytes of the buffer named before it
+ *   .._length    the bytes of the buffer named before it; of prices and
+ *                factors, the doubles
  *
  * A symbol is the XOR of the data symbols whose bits are set in its row of the generator matrix. Bit 0 is the lowest.
  *
@@ -90,6 +94,34 @@
  *
  *   navorzim_planned planned = navorzim_plan_fewest(sheet, sheet_length, disks, disks_length, NULL, 0, buffer, buffer_length);
  *   if (planned.number == 41) ..          planned.place symbols survive: ask navorzim_plan_disks, with the same arguments
+ *
+ *
+ * Disks that cost more to read
+ *
+ * Take the same four disks, with the first lost. All others are idle, and each symbol of them costs 1. The plan that reads c, a XOR c and
+ * b XOR c costs 3. Now the third disk, which has a XOR c and b XOR d, is busy, and its symbols cost ten times as much: the same plan costs 12.
+ * The plan that reads c, d, a XOR d and b XOR c costs 4, and leaves the busy disk alone. With the third disk away no other is left.
+ *
+ * navorzim_plan_priced is told the STATE of each disk: AWAY, or IDLE at a price per symbol, or BUSY at a price and a factor. A disk's CHARGE is
+ * the number of its symbols that the plan reads times its price, and then, if it is busy, times its factor. The SUM starts at 0 and adds
+ * the charges in the order of the disks. Each product and each addition is rounded once, to the nearest double, the even one of two as near.
+ * So the sum is fixed to the bit: charges of 0.1, 0.2 and 0.3 have the sum 0.6000000000000001, and in the other order it would be 0.6.
+ *
+ * An away disk counts as lost, and of what is on it only what was asked for is wanted. The plan lists it among the lost disks: checking and
+ * rebuilding are asked about all of these, and a rebuild keeps the bytes of what isn't wanted.
+ *
+ * The call starts from the plan that navorzim_plan_disks has for these lost disks and wanted symbols. In it each wanted symbol is the XOR of a
+ * set of survivors. A SWAP XORs one such set with one equation of navorzim_equations for these lost disks, whose symbols XOR to 0: the set is
+ * another one for the same symbol. A swap is made only if it lowers the sum. The answer is SETTLED if no single swap lowers the sum any more;
+ * else it was STOPPED, after 1,024 swaps. Which swaps are made is left open. A settled plan need not be the cheapest: two swaps together might
+ * lower the sum where neither does alone.
+ *
+ *   const uint8_t kinds[] = {0, 1, 2, 1};                  disk 0 is lost, and no price of it matters; disk 2 is busy
+ *   const double prices[] = {0, 1, 1, 1}, factors[] = {0, 0, 10, 0};
+ *   navorzim_priced priced = navorzim_plan_priced(sheet, sheet_length, disks, disks_length, NULL, 0, kinds, 4, prices, 4, factors, 4, buffer,
+ *                                                 buffer_length);
+ *   if (priced.number == 42) ..           disk priced.place can't be in its state
+ *   else if (priced.length != 0) ..       a plan, for priced.sum
  *
  *
  * Before a rebuild: can the survivors be sound?
@@ -154,6 +186,9 @@
  *   37      the sheet buffer is shorter than the sheet to be written
  *   38      the symbol isn't below N
  *   41      more than 16 symbols survive, too many for navorzim_plan_fewest            how many survive
+ *   42      a disk is in no state that there is: its kind is above 2, it is idle or    the lowest such disk
+ *           busy and its price isn't 0 to 1,000,000, it is busy and its factor isn't
+ *           1 to 64, or one of these isn't there
  *
  * The order of "the code sheet's" is 1 (under 6 bytes), 3 (first count), 4, 5, 3 (second count), 1, 2, 6.
  *
@@ -173,8 +208,12 @@
  * A buffer is a pointer and a length in bytes; no alignment is asked for. All its bytes must be readable, and writable where the
  * pointer is not to const. A buffer that a call writes must not overlap any other buffer of that call; those that it only reads may. Nobody
  * else may write any of them while the call runs. A length of 0 may go with any pointer, NULL too: nothing is read or written through it.
+ * Only prices and factors are doubles: they are aligned as C aligns these, and their length is the number of doubles.
  * No call keeps a pointer, allocates, does input or output, or has any state: calls on different buffers may run in as many threads as
  * there are. A code or a plan is never remembered from one call to the next; every call reads and tests its sheets anew.
+ *
+ * navorzim_plan_priced calculates as a C program does when it starts: doubles are rounded to the nearest, and tiny ones aren't taken for 0. A
+ * thread that has changed this (fesetround, or an option like -ffast-math, which may change it for the whole program) has another sum.
  */
 #ifndef NAVORZIM_H
 #define NAVORZIM_H
@@ -214,8 +253,8 @@ extern "C" {
 #endif
 
 /* Lengths of buffers that always suffice. No code sheet is longer than the first. A buffer for navorzim_plan must have 3,081 bytes or more,
- * and one for navorzim_plan_wanted 3,114 or more: the second is enough for both. A buffer for navorzim_plan_disks or navorzim_plan_fewest must
- * have as many bytes as the third, or more, and no plan sheet is longer. */
+ * and one for navorzim_plan_wanted 3,114 or more: the second is enough for both. A buffer for navorzim_plan_disks, navorzim_plan_fewest or
+ * navorzim_plan_priced must have as many bytes as the third, or more, and no plan sheet is longer. */
 #define NAVORZIM_SHEET_BYTES 518
 #define NAVORZIM_PLAN_BYTES 3114
 #define NAVORZIM_PLAN_DISKS_BYTES 3210
@@ -247,6 +286,15 @@ typedef struct {
 typedef struct {
     uint64_t number, place, length, reads, pattern, pattern_high, patterns;
 } navorzim_planned;
+
+/* Exactly one of number, length and patterns is not 0. number: refused. length: a plan of so many bytes; it reads so many symbols for this sum,
+ * and settled is 1, or 0 where it was stopped. patterns: no plan avoids the away disks, and so many patterns say how much is gone; pattern is
+ * the first of them, and pattern_high has the bits of data symbols from 64 on. settled and sum are 0 where there is no plan. */
+typedef struct {
+    uint64_t number, place, length, reads, settled;
+    double sum;
+    uint64_t pattern, pattern_high, patterns;
+} navorzim_priced;
 
 /* A set of data symbols, or for navorzim_equation of symbols: bit t of low stands for number t, bit t of high for number 64 + t. Both are 0
  * on a refusal. */
@@ -374,6 +422,26 @@ NAVORZIM_ANSWER
 navorzim_planned navorzim_plan_fewest(const uint8_t *sheet, size_t sheet_length, const uint8_t *disks, size_t disks_length,
                                       const uint8_t *wanted, size_t wanted_length, uint8_t *buffer, size_t buffer_length);
 
+/* Plan where disks cost more to read or less: asked like navorzim_plan_disks, and told the state of each disk ("Disks that cost more to read",
+ * above). kinds has a byte for each disk, 0 away, 1 idle, 2 busy; prices and factors have a double for each disk. What a kind doesn't use isn't
+ * looked at, and need not be there: price and factor of an away disk, the factor of an idle one. The same goes for entries from n on. The states
+ * of the disks asked about are tested like all others. -0.0 is a price, like 0; what is no number, infinite or negative is none.
+ * The lost disks are those asked about and those away. If it can be done, a plan sheet of edition 3 is written to the front of the buffer, which
+ * must have 3,210 bytes or more. It lists all lost disks, and the wanted symbols one by one: those of the list, or without one all symbols of
+ * the disks asked about, away or not. Its length, its read count, its sum, and whether it is settled or stopped are answered; the bytes after it
+ * stay. It reads the symbols of the final sets and no other, and its sum is never above that of the plan that navorzim_plan_disks has for these
+ * lost disks and this list. Of N symbols with x lost it has at most x * (N - x) steps, or, if no disk survives, at most one clear for each
+ * wanted symbol. navorzim_check_disks, asked about all lost disks, accepts these very bytes with this very count.
+ * If no plan of any length avoids the away disks, nothing is written. Answered are the number of patterns and the first of them ("How much is
+ * gone", above), as of navorzim_plan_disks for these lost disks and wanted symbols. navorzim_lost_pattern answers each, asked about all lost
+ * disks, with the wanted symbols one by one.
+ * Refusals: the code sheet's, 7, 24, 23, 34, 42. */
+NAVORZIM_ANSWER
+navorzim_priced navorzim_plan_priced(const uint8_t *sheet, size_t sheet_length, const uint8_t *disks, size_t disks_length,
+                                     const uint8_t *wanted, size_t wanted_length, const uint8_t *kinds, size_t kinds_length,
+                                     const double *prices, size_t prices_length, const double *factors, size_t factors_length,
+                                     uint8_t *buffer, size_t buffer_length);
+
 /* One of the patterns that say how much is gone: where navorzim_plan_disks has no plan for these lists, number `index`, from 0, of the d
  * patterns that it answers. For those of navorzim_plan and navorzim_plan_wanted the list of disks has their one disk. From d on, and where
  * there is a plan, low and high are 0, which no pattern is: a program may ask from 0 on until both are 0. Every call plans anew. It asks for
@@ -481,6 +549,7 @@ NAVORZIM_INLINE const char *navorzim_reason(uint64_t number) {
     case 37: return "the buffer is shorter than the code sheet";
     case 38: return "the array has no such symbol";
     case 41: return "more than 16 symbols survive, too many to look for the fewest reads";
+    case 42: return "a disk is neither away, nor idle at a price of 0 to 1,000,000, nor busy at such a price and a factor of 1 to 64";
     default: return "a refusal that this header has no sentence for";
     }
 }
