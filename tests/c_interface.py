@@ -4,17 +4,19 @@
 """
 import os
 import sys
-from ctypes import CDLL, Structure, c_size_t, c_uint64, create_string_buffer
-from itertools import combinations
-from typing import Any, Union
+from ctypes import CDLL, Structure, byref, c_double, c_size_t, c_uint64, create_string_buffer
+from itertools import combinations, product
+from typing import Any, NamedTuple, Sequence, Union
 
 import second
 from arrays import SPECIAL_CODES, below, chosen, random_bytes, random_code, shuffled
 from second import Code, Refusal, changed, read_code, sheet_of
-from second_checker import P2, ROW_1, TWO_DISKS, Disks, check, plan_sheet, set_sheet
+from second_checker import P2, ROW_1, TWO_DISKS, Disks, check, plan_sheet, set_sheet, steps_of
 from second_fewest import Given, Gone, families, judge, sets_in_range, units
 from second_planner import BUFFER, LIST_BUFFER, SET_BUFFER, Wish, for_disk, for_disks, how_much_is_gone, judge_patterns, judge_plan
 from second_planner import planning_refusal
+from second_priced import FACTORS, NAN, NO_FACTORS, NO_PRICES, PRICES, Answer, Known, Priced, State, States, any_states, bits, counting
+from second_priced import judge_priced, priced_refusal, read_by, sets_made, states_of, with_away
 from second_rebuild import rebuild
 from second_soundness import Tested, Unsound, damaged, equations_refusal, judge_equations, test_survivors
 
@@ -24,6 +26,7 @@ FIELDS = {
     "sheet": ("number", "place", "length"),
     "checked": ("number", "place", "reads"),
     "planned": ("number", "place", "length", "reads", "pattern", "pattern_high", "patterns"),
+    "priced": ("number", "place", "length", "reads", "settled", "sum", "pattern", "pattern_high", "patterns"),
     "set": ("number", "place", "low", "high"),
     "count": ("number", "place", "count"),
     "tested": ("number", "place", "sound", "column"),
@@ -42,6 +45,7 @@ ANSWERS = {
     "plan_wanted": "planned",
     "plan_disks": "planned",
     "plan_fewest": "planned",
+    "plan_priced": "priced",
     "lost_pattern": "set",
     "rebuild": "verdict",
     "rebuild_disks": "verdict",
@@ -59,23 +63,44 @@ calls = 0
 def load(path: str) -> CDLL:
     library = CDLL(os.path.abspath(path))
     for call, kind in ANSWERS.items():
-        struct = type(kind, (Structure,), {"_fields_": [(name, c_uint64) for name in FIELDS[kind]]})
+        struct = type(kind, (Structure,), {"_fields_": [(name, c_double if name == "sum" else c_uint64) for name in FIELDS[kind]]})
         getattr(library, "navorzim_" + call).restype = struct
     return library
 
 
-def ask(call: str, *given: Any) -> tuple[int, ...]:
-    """A call's answer as a tuple. Bytes go as pointer and length, nothing as NULL and 0, numbers as they are."""
+class Part(NamedTuple):
+    """So many entries of an array, from one on. A call may not look at the others."""
+
+    array: Any
+    first: int
+    count: int
+
+
+def crossing(given: Any) -> tuple[Any, ...]:
+    """Bytes and parts go as pointer and length, nothing as NULL and 0, numbers as they are."""
+    if isinstance(given, int):
+        return (c_uint64(given),)
+    if isinstance(given, Part):
+        return byref(given.array, given.first * (8 if given.array._type_ is c_double else 1)), c_size_t(given.count)
+    return given, c_size_t(len(given or b""))
+
+
+def ask(call: str, *given: Any) -> tuple[Any, ...]:
+    """A call's answer as a tuple."""
     global calls
     calls += 1
-    crossed = [c for g in given for c in ((c_uint64(g),) if isinstance(g, int) else (g, c_size_t(len(g or b""))))]
-    answer = getattr(LIBRARY, "navorzim_" + call)(*crossed)
+    answer = getattr(LIBRARY, "navorzim_" + call)(*(crossed for one in given for crossed in crossing(one)))
     return tuple(getattr(answer, name) for name in FIELDS[ANSWERS[call]])
 
 
 def lent(content: bytes) -> Any:
     """A buffer that a call may write."""
     return create_string_buffer(content, len(content))
+
+
+def doubles(numbers: Sequence[float]) -> Part:
+    """Between doubles that would be good prices and factors."""
+    return Part((c_double * (len(numbers) + 2))(1.0, *numbers, 1.0), 1, len(numbers))
 
 
 def told(answer: Union[int, Refusal, None]) -> tuple[int, ...]:
@@ -167,6 +192,39 @@ def test_fewest(sheet: bytes, disks: bytes, listed: bytes, length: int = SET_BUF
     return reads
 
 
+def test_priced(sheet: bytes, disks: bytes, listed: bytes, states: States, length: int = SET_BUFFER) -> Answer:
+    """Which swaps are made is free: a plan is held to the library's own start and equations, and where there is none, the patterns are those of
+    planning for the same lost disks. Nothing around the buffer, the prices and the factors is looked at, and no double changes."""
+    before = (random_bytes(97) * (length // 97 + 2))[: length + 32]
+    buffer, prices, factors = Part(lent(before), 16, length), doubles(states.prices), doubles(states.factors)
+    answered = ask("plan_priced", sheet, disks, listed, bytes(states.kinds), prices, factors, buffer)
+    number, place, size, reads, settled, total, *first, gone = answered
+    assert buffer.array.raw[:16] == before[:16] and buffer.array.raw[16 + size :] == before[16 + size :]
+    assert bytes(prices.array) == bytes(doubles(states.prices).array) and bytes(factors.array) == bytes(doubles(states.factors).array)
+    answer: Answer
+    if number:
+        assert (size, reads, settled, bits(total), *first, gone) == (0, 0, 0, bits(0.0), 0, 0, 0)
+        answer = Refusal(number, place)
+    else:
+        assert priced_refusal(sheet, for_disks(disks, listed), states, length) is None
+        lost = with_away(read_code(sheet), for_disks(disks, listed), states)
+        if size:
+            assert (place, *first, gone) == (0, 0, 0, 0) and settled in (0, 1)
+            answer = Priced(buffer.array.raw[16 : 16 + size], reads, settled == 1, total)
+            test_check_disks(sheet, lost.disks, answer.plan)
+            test_check_disks(sheet, disks, answer.plan)
+        else:
+            answer = Gone(test_lost_patterns(sheet, lost.disks, lost.listed))
+            assert (place, reads, settled, bits(total), *first, gone) == (0, 0, 0, bits(0.0), *answer.patterns[:1], 0, len(answer.patterns))
+    fault = judge_priced(sheet, for_disks(disks, listed), states, length, answer, lambda lost: known(sheet, lost))
+    assert fault is None, fault
+    return answer
+
+
+def known(sheet: bytes, lost: Wish) -> Known:
+    return Known(test_plan(sheet, lost, SET_BUFFER), test_equations(sheet, bytes(lost.disks)))
+
+
 def test_check(sheet: bytes, disk: int, plan: bytes) -> None:
     assert ask("check", sheet, disk, plan) == told(check(sheet, [disk], plan))
 
@@ -189,8 +247,8 @@ def test_rebuild_disks(sheet: bytes, disks: bytes, plan: bytes, size: int, strip
     assert buffer.raw == after
 
 
-def test_equations(sheet: bytes, disks: bytes) -> None:
-    """Which list is free: it is among the survivors, right and enough, and from its end on there is nothing."""
+def test_equations(sheet: bytes, disks: bytes) -> list[int]:
+    """Which list is free: it is among the survivors, right and enough, and from its end on there is nothing. Answers the list."""
     refusal = equations_refusal(sheet, disks)
     number, place, count = ask("equations", sheet, disks)
     if refusal:
@@ -200,6 +258,7 @@ def test_equations(sheet: bytes, disks: bytes) -> None:
     assert refusal or (number, place, judge_equations(read_code(sheet), disks, [low for _, _, low, _ in found])) == (0, 0, None)
     for beyond in (count, count + 1, 64 + count, 2**32, 2**63, 2**64 - 1):
         assert ask("equation", sheet, disks, beyond) == (*(refusal or (0, 0)), 0, 0)
+    return [low for _, _, low, _ in found]
 
 
 def told_test(answer: Tested) -> tuple[int, ...]:
@@ -242,6 +301,15 @@ def any_list(code: Code, disks: Disks) -> bytes:
     return bytes(good if below(3) else chosen(bad))
 
 
+def with_fault(states: States) -> States:
+    """Another kind, price or factor of some disk, or shorter lists."""
+    lists, which = [list(listed) for listed in states], below(4)
+    if which == 3:
+        return States(*(listed[: below(len(listed) + 1)] for listed in lists))
+    lists[which][below(len(lists[which]))] = chosen(((0, 1, 2, 3, 255), NO_PRICES, NO_FACTORS)[which])
+    return States(*lists)
+
+
 def with_faults(plan: bytes) -> list[bytes]:
     """A plan, with one byte changed, and one byte short; or no bytes, where there is none."""
     return [plan, changed(plan, below(len(plan)), below(10)), plan[:-1]] if plan else [b""]
@@ -278,6 +346,8 @@ def test_sets(code: Code, sheet: bytes, size: int, stripe: bytes) -> None:
     one = test_plan(sheet, for_disks(disks[:1]), SET_BUFFER)
     test_lost_patterns(sheet, disks, listed)
     test_fewest(sheet, disks, listed, SET_BUFFER - chosen((0, 0, 0, 1, 96)) + chosen((0, 0, 9)))
+    test_priced(sheet, disks, listed, any_states(code.disks), SET_BUFFER - chosen((0, 0, 0, 1, 96)) + chosen((0, 0, 9)))
+    test_priced(sheet, disks, listed, with_fault(any_states(code.disks)), SET_BUFFER)
     stated = [set_sheet(code, disks[:255], []), set_sheet(code, disks[:255], [], listed=listed[:255]), plan_sheet(code, (disks or b"\0")[0], [])]
     for tried in with_faults(plan) + with_faults(one) + stated:
         for asked in (disks, disks[:1]):
@@ -366,6 +436,105 @@ def test_fewest_refused() -> None:
     assert ask("plan_fewest", sheet, disks, None, buffer)[:4:3] == (0, 3)
 
 
+def test_prices() -> None:
+    """Sums whose last bit goes by the order; each price and factor at the limits and beyond, at each disk; a busy disk is left alone."""
+    for code, given, expected in [
+        (second.single_parity(3, 1), [0.1, 0.2, 0.3, 1.0], "3FE3333333333334"),
+        (second.single_parity(3, 1), [0.3, 0.2, 0.1, 1.0], "3FE3333333333333"),
+        (second.single_parity(1, 5), [(0.1, 3.0), 1.0], "3FF8000000000000"),
+        (second.single_parity(1, 3), [(0.1, 3.0), 1.0], "3FECCCCCCCCCCCCE"),
+        (second.single_parity(3, 1), [-0.0, (-0.0, 64.0), -0.0, -0.0], "0000000000000000"),
+        (second.single_parity(3, 1), [5e-324, (5e-324, 1.5), 5e-324, 1.0], "0000000000000004"),
+        (second.single_parity(1, 32), [(1e6, 64.0), 1.0], "41DE848000000000"),
+    ]:
+        answer = test_priced(sheet_of(code), bytes([code.disks - 1]), b"", states_of(given))
+        assert isinstance(answer, Priced) and answer.settled and bits(answer.sum) == bytes.fromhex(expected)
+    sheet = sheet_of(second.SQUARE)
+    for disk, price, asked in product(range(4), PRICES + NO_PRICES, (b"\0", b"\0\2")):
+        for state in (price, *((price, factor) for factor in FACTORS[::3])):
+            test_priced(sheet, asked, b"", states_of([state if at == disk else 1.0 for at in range(4)], chosen((0, 1, 60))))
+    for disk, factor, price in product(range(4), FACTORS + NO_FACTORS, (0.0, 0.1, 1e6)):
+        test_priced(sheet, b"\0", b"", states_of([(price, factor) if at == disk else (0.7, 1.1) for at in range(4)]))
+    for state, read in [(1.0, {3, 5, 6}), ((1.0, 10.0), {2, 3, 6, 7}), (None, {2, 3, 6, 7})]:
+        answer = test_priced(sheet, b"\0", b"", states_of([1.0, 1.0, state, 1.0]))
+        assert isinstance(answer, Priced) and (answer.sum, read_by(sets_made(steps_of(answer.plan)))) == (len(read), read)
+    assert test_priced(sheet, b"\0", b"", states_of([1.0, None, 1.0, 1.0])) == Gone([15])
+
+
+def test_away() -> None:
+    """Disks away, asked about and not, one, several and all of them, with a list and without."""
+    small = (Code(3, 2, 1, (0,) * 6), Code(4, 1, 1, (1, 0, 1, 1)))
+    for code in (second.SQUARE, second.row_diagonal(3), second.evenodd(3), second.liberation(3, 3), *small):
+        every = range(code.disks)
+        for count in range(code.disks + 1):
+            for away in combinations(every, count):
+                states: list[State] = [None if disk in away else chosen((1.0, 0.3, (0.7, 2.0))) for disk in every]
+                disks = bytes(sorted(shuffled(every)[: 1 + below(2)]))
+                test_priced(sheet_of(code), disks, chosen((b"", any_list(code, disks))), states_of(states, chosen((0, 7))))
+                test_priced(sheet_of(code), bytes([below(code.disks)]), b"", states_of(states))
+
+
+def test_short_lists() -> None:
+    """Lists that end before a disk's entry is needed, at it and after it, and kinds that are none."""
+    for sheet, lengths in [(sheet_of(second.SQUARE), range(6)), (sheet_of(units(64)), (0, 1, 62, 63, 64, 65))]:
+        for kind in (0, 1, 2, 3):
+            for kinds, prices, factors in product(lengths, repeat=3):
+                test_priced(sheet, b"\0", b"", States([kind] * kinds, [0.5] * prices, [2.0] * factors))
+                test_priced(sheet, b"\1", b"", States([0] * (kinds // 2) + [kind] * (kinds - kinds // 2), [0.5] * prices, [2.0] * factors))
+    for kind in range(256):
+        test_priced(sheet_of(second.SQUARE), b"\0", b"", States([1, kind, 1, 1], [1.0] * 4, [1.0] * 4))
+
+
+def test_many_swaps() -> None:
+    """Arrays that swaps can count down with, on both sides of 1,024. Which swaps are made is free; those that the library makes count by one."""
+    found = set()
+    for number, falling in product((0, 1, 511, 1022, 1023, 1024, 1025, 1026, 2046, 2047), (False, True)):
+        code, states = counting(number, falling=falling)
+        answer = test_priced(sheet_of(code), b"\0", b"", states)
+        assert isinstance(answer, Priced)
+        found.add((number, answer.settled, answer.sum))
+    assert {(1024, True, 0.0), (1025, False, 1.0), (2047, False, 1023.0)} <= found, "no array takes 1,024 swaps any more: find others"
+
+
+def test_priced_families() -> None:
+    """Every family but the smaller single parities, with one disk lost and with two, at prices by chance; and the largest codes."""
+    for name, code in families():
+        if not name.startswith("single parity") or code.symbols >= 60:
+            sheet = sheet_of(code)
+            for count in (1, 1, 2, 2):
+                disks = bytes(sorted(shuffled(range(code.disks))[:count]))
+                test_priced(sheet, disks, chosen((b"", any_list(code, disks))), any_states(code.disks, chosen((6, 1000))))
+                test_priced(sheet, disks, b"", states_of([1.0] * code.disks))
+    for code in (random_code(64, 1, 20), random_code(2, 32, 30), random_code(8, 8, 24), random_code(32, 2, 40), random_code(16, 4, 16)):
+        for _ in range(4):
+            test_priced(sheet_of(code), bytes([below(code.disks)]), b"", any_states(code.disks, 40))
+
+
+def test_priced_refused() -> None:
+    """Each refusal, each with each, and NULL with length 0."""
+    for code in (second.SQUARE, units(18)):
+        good = sheet_of(code)
+        sheets = [good, b"", good[:5], changed(good, 0, 5), changed(good, 1, 2), changed(good, 4, 0), good[:-1], good + b"\0"]
+        lists = [b"", b"\0", b"\0\0", bytes([code.height]), bytes(code.height + 1), bytes(300)]
+        for sheet, listed, length in product(sheets, lists, (0, 3209, 3210)):
+            for disks in (b"\0", b"", b"\0\0", bytes([0, code.disks]), bytes([1, 0]), bytes(code.disks + 1), bytes(300), b"\377"):
+                for state in (1.0, NAN):
+                    test_priced(sheet, disks, listed, states_of([1.0] * (code.disks - 1) + [state]), length)
+    sheet, disks, kinds, one, buffer = sheet_of(second.SQUARE), b"\0", b"\1" * 4, doubles([1.0] * 4), lent(bytes(SET_BUFFER))
+    for given, number in [
+        ((None, disks, b"", kinds, one, one, buffer), 1),
+        ((sheet, None, b"", kinds, one, one, buffer), 24),
+        ((sheet, disks, b"", kinds, one, one, None), 34),
+        ((sheet, disks, b"", None, one, one, buffer), 42),
+        ((sheet, disks, b"", kinds, None, one, buffer), 42),
+        ((sheet, disks, b"", b"\2" * 4, one, None, buffer), 42),
+        ((None,) * 7, 1),
+    ]:
+        assert ask("plan_priced", *given) == (number, 0, 0, 0, 0, 0.0, 0, 0, 0)
+    assert ask("plan_priced", sheet, disks, None, kinds, one, None, buffer)[3:6] == (3, 1, 3.0)
+    assert ask("plan_priced", sheet, disks, None, bytes(4), None, None, buffer)[-1] == 2
+
+
 def test_every_survivor() -> None:
     """Every single byte of a stripe of each family, with every disk lost; and the longest symbols, first, last and middle column."""
     for code in (second.liberation(3, 3), second.liberation(5, 5), second.row_diagonal(5), second.evenodd(3), second.single_parity(4, 3)):
@@ -406,6 +575,12 @@ def main() -> None:
     test_how_much_is_gone()
     test_fewest_reads()
     test_fewest_refused()
+    test_prices()
+    test_away()
+    test_short_lists()
+    test_many_swaps()
+    test_priced_families()
+    test_priced_refused()
     test_every_survivor()
     print(f"the C interface: {calls} calls answer as the second program")
 

@@ -8,6 +8,8 @@
 static const uint8_t sheet[22] = {4, 1, 2, 1, 1, 2, 1, 0, 0, 0, 0, 0, 0, 0, 1, 0, 0, 0, 0, 0, 0, 0};
 static const uint8_t plan[12] = {6, 1, 2, 1, 1, 0, 1, 1, 0, 1, 0, 1}; /* symbol 0 becomes symbol 1 */
 static const uint8_t disks[1] = {0}, both[2] = {0, 1}, wanted[1] = {0}, contents[1] = {7}, spare[1] = {9};
+static const uint8_t kinds[2] = {2, 2}; /* both disks are busy, so that both lists are needed */
+static const double prices[2] = {1, 1}, factors[2] = {1, 1};
 static uint8_t stripe[2], buffer[NAVORZIM_PLAN_DISKS_BYTES];
 static int wrong;
 
@@ -74,6 +76,31 @@ static void several_disks(void) {
     expect("rebuild disks, stripe", navorzim_rebuild_disks(sheet, 22, disks, 1, plan, 12, 1, NULL, 0).number, 32);
 }
 
+static navorzim_priced priced(const uint8_t *states, size_t states_length, const double *price, const double *factor) {
+    return navorzim_plan_priced(sheet, 22, disks, 1, wanted, 1, states, states_length, price, price ? 2 : 0, factor, factor ? 2 : 0, buffer,
+                                sizeof buffer);
+}
+
+static void pricing(void) {
+    navorzim_priced none = navorzim_plan_priced(NULL, 0, NULL, 0, NULL, 0, NULL, 0, NULL, 0, NULL, 0, NULL, 0);
+    navorzim_priced no_sheet = navorzim_plan_priced(NULL, 0, disks, 1, wanted, 1, kinds, 2, prices, 2, factors, 2, buffer, sizeof buffer);
+    navorzim_priced no_disks = navorzim_plan_priced(sheet, 22, NULL, 0, wanted, 1, kinds, 2, prices, 2, factors, 2, buffer, sizeof buffer);
+    navorzim_priced no_list = navorzim_plan_priced(sheet, 22, disks, 1, NULL, 0, kinds, 2, prices, 2, factors, 2, buffer, sizeof buffer);
+    expect("plan at prices, all", none.number, 1);
+    expect("plan at prices, sheet", no_sheet.number, 1);
+    expect("plan at prices, disks", no_disks.number, 24);
+    expect("plan at prices, list", no_list.number, 0);
+    expect("plan at prices, buffer", navorzim_plan_priced(sheet, 22, disks, 1, wanted, 1, kinds, 2, prices, 2, factors, 2, NULL, 0).number, 34);
+    expect("plan at prices, kinds", priced(NULL, 0, prices, factors).number, 42);
+    expect("plan at prices, prices", priced(kinds, 2, NULL, factors).number, 42);
+    expect("plan at prices, factors", priced(kinds, 2, prices, NULL).number, 42);
+    expect("plan at prices, nothing left out", priced(kinds, 2, prices, factors).reads, 1);
+    /* an idle disk needs no factor, and an away one no price */
+    const uint8_t idle[2] = {1, 1}, away[2] = {0, 0};
+    expect("plan at prices, no factors of idle disks", priced(idle, 2, prices, NULL).reads, 1);
+    expect("plan at prices, nothing of away disks", priced(away, 2, NULL, NULL).patterns, 1);
+}
+
 static void rebuilding(void) {
     expect("rebuild, all", navorzim_rebuild(NULL, 0, 0, NULL, 0, 1, NULL, 0).number, 1);
     expect("rebuild, sheet", navorzim_rebuild(NULL, 0, 0, plan, 12, 1, stripe, 2).number, 1);
@@ -113,6 +140,7 @@ int main(void) {
     families_and_encoding();
     checking_and_planning();
     several_disks();
+    pricing();
     rebuilding();
     survivors();
     looking();
