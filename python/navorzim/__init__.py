@@ -24,7 +24,8 @@ byte. What is of another type, or can't be written where that is needed, is a Ty
 from .code import Code
 from .library import Readable, Writable
 from .plans import Plan, Step
+from .prices import Away, Busy, Idle, PricedPlan, State
 from .refusals import NoPlan, Refused, Unsound
 
 __version__ = "0.2.2"
-__all__ = ["Code", "NoPlan", "Plan", "Readable", "Refused", "Step", "Unsound", "Writable"]
+__all__ = ["Away", "Busy", "Code", "Idle", "NoPlan", "Plan", "PricedPlan", "Readable", "Refused", "State", "Step", "Unsound", "Writable"]

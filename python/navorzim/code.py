@@ -1,10 +1,12 @@
 """A code, and all that is asked of it."""
-from itertools import count, takewhile
+from array import array
+from itertools import count, islice, takewhile
 from operator import index
 from typing import Any, Iterable, Union
 
 from .library import Readable, Writable, ask, numbers
 from .plans import Plan
+from .prices import AWAY, PricedPlan, State, as_told
 from .refusals import NoPlan, Refused, Unsound, members
 
 SHEET_BYTES, PLAN_BYTES = 518, 3210
@@ -194,6 +196,40 @@ class Code:
         """
         lost, listed = numbers(disks), numbers(wanted)
         return self._planned("plan_fewest", (lost, listed), lost, listed)
+
+    def plan_priced(self, disks: Iterable[int], states: Iterable[State], wanted: Iterable[int] = ()) -> PricedPlan:
+        """As plan_disks, where disks cost more to read or less. `states` has one for each disk, the lost ones too: Away(), Idle(price) or
+        Busy(price, factor). What comes after the last disk isn't looked at. A disk that is away counts as lost, and is among the plan's
+        disks; what is wanted stays what was asked for, and the plan lists it symbol by symbol.
+
+        The plan of plan_disks for these lost disks is made cheaper by swaps. A swap makes one wanted symbol of other survivors, by one of the
+        `equations` for these disks, and is made only if it lowers the sum. That may not find the cheapest plan, and is never dearer than the
+        one of plan_disks. Raises NoPlan where no plan avoids the disks that are away. Refused: 7, 24, 23, 42.
+
+        >>> from navorzim import Away, Busy, Idle
+        >>> code = Code.liberation(5, 5)
+        >>> code.plan_disks([0]).reads, code.plan_priced([0], [Idle(1)] * 7).sum
+        (25, 19.0)
+        >>> plan = code.plan_priced([0], [Idle(1)] * 5 + [Busy(1, 10), Idle(1)])  # disk 5 has symbols 25 to 29
+        >>> plan.sum, [step for step in plan.steps if 25 <= step.source < 30]
+        (25.0, [])
+        >>> code.plan_priced([0], [Idle(1)] * 5 + [Away(), Idle(1)]).disks
+        (0, 5)
+        >>> code.plan_priced([0], [Idle(1)] * 5 + [Idle(-1), Idle(1)])  # doctest: +ELLIPSIS
+        Traceback (most recent call last):
+        ...
+        navorzim.refusals.Refused: refused 42 at 5: a disk is neither away, nor idle at a price of 0 to 1,000,000, nor busy ... (disk 5)
+        """
+        lost, listed, told = numbers(disks), numbers(wanted), [as_told(state) for state in islice(states, self.disks)]
+        kinds = bytes(kind for kind, _, _ in told)
+        prices, factors = array("d", (price for _, price, _ in told)), array("d", (factor for _, _, factor in told))
+        buffer = bytearray(PLAN_BYTES)
+        priced = accepted(ask("plan_priced", self.sheet, lost, listed, kinds, prices, factors, buffer))
+        if priced.patterns != 0:
+            away = (disk for disk, kind in enumerate(kinds) if kind == AWAY)
+            symbols = listed or [disk * self.rows + row for disk in lost for row in range(self.rows)]
+            raise NoPlan(*self.lost_patterns(sorted({*lost, *away}), symbols))
+        return PricedPlan(bytes(buffer[: priced.length]), int(priced.reads), float(priced.sum), bool(priced.settled))
 
     def _planned(self, call: str, asked: "tuple[Any, ...]", disks: Iterable[int], wanted: Iterable[int] = ()) -> Plan:
         buffer = bytearray(PLAN_BYTES)

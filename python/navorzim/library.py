@@ -2,14 +2,16 @@
 import os
 from array import array
 from contextlib import ExitStack
-from ctypes import CDLL, POINTER, Structure, byref, c_char_p, c_int, c_size_t, c_ssize_t, c_uint64, c_void_p, py_object, pythonapi
+from ctypes import CDLL, POINTER, Structure, byref, c_char_p, c_double, c_int, c_size_t, c_ssize_t, c_uint64, c_void_p, py_object, pythonapi, sizeof
+from math import inf
 from mmap import mmap
 from operator import index
 from pathlib import Path
 from typing import Any, Iterable, Optional, Union
 
-NUMBER, READ, WRITTEN = "number", "read", "written"
-"""What a call's parameters are: a number, bytes that it reads, or bytes that it writes. Bytes go as a pointer and a length."""
+NUMBER, READ, DOUBLES, WRITTEN = "number", "read", "doubles", "written"
+"""What a call's parameters are: a number, bytes that it reads, doubles that it reads, or bytes that it writes. All but numbers go as a pointer and a
+length, that of doubles being their number."""
 
 FIELDS = {
     "verdict": ("number", "place"),
@@ -17,6 +19,7 @@ FIELDS = {
     "sheet": ("number", "place", "length"),
     "checked": ("number", "place", "reads"),
     "planned": ("number", "place", "length", "reads", "pattern", "pattern_high", "patterns"),
+    "priced": ("number", "place", "length", "reads", "settled", "sum", "pattern", "pattern_high", "patterns"),
     "set": ("number", "place", "low", "high"),
     "count": ("number", "place", "count"),
     "tested": ("number", "place", "sound", "column"),
@@ -24,8 +27,12 @@ FIELDS = {
 }
 """The answers of navorzim.h, each a struct of 64-bit numbers."""
 
+FLOATS = ("sum",)
+"""The fields that are doubles."""
+
 ANSWERS: "dict[str, type[Structure]]" = {
-    name: type(name, (Structure,), {"_fields_": [(field, c_uint64) for field in fields]}) for name, fields in FIELDS.items()
+    name: type(name, (Structure,), {"_fields_": [(field, c_double if field in FLOATS else c_uint64) for field in fields]})
+    for name, fields in FIELDS.items()
 }
 
 CALLS = {
@@ -41,6 +48,7 @@ CALLS = {
     "plan_wanted": ("planned", (READ, NUMBER, READ, WRITTEN)),
     "plan_disks": ("planned", (READ, READ, READ, WRITTEN)),
     "plan_fewest": ("planned", (READ, READ, READ, WRITTEN)),
+    "plan_priced": ("priced", (READ, READ, READ, READ, DOUBLES, DOUBLES, WRITTEN)),
     "lost_pattern": ("set", (READ, READ, READ, NUMBER)),
     "rebuild": ("verdict", (READ, NUMBER, READ, NUMBER, WRITTEN)),
     "rebuild_disks": ("verdict", (READ, READ, READ, NUMBER, WRITTEN)),
@@ -115,6 +123,14 @@ def numbers(values: Iterable[int]) -> bytes:
     return bytes(value if 0 <= value <= 255 else 255 for value in map(index, values))
 
 
+def double(value: float) -> float:
+    """A double for the library. A number that is too large for one is as far beyond every limit as the infinite one."""
+    try:
+        return array("d", (value,))[0]
+    except OverflowError:
+        return inf
+
+
 # Buffers
 
 
@@ -171,7 +187,7 @@ def ask(call: str, *given: Any) -> Any:
                 start, length = lend(lent, value, parameter == WRITTEN)
                 if length > 0:
                     (written if parameter == WRITTEN else read).append((start, start + length))
-                crossed += start, length
+                crossed += start, length // sizeof(c_double) if parameter == DOUBLES else length
         for start, end in written:
             if any(start < other_end and other < end for other, other_end in read):
                 raise ValueError("bytes that are written overlap others of the same call")

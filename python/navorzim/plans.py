@@ -63,6 +63,9 @@ class Plan:
         return self.sheet
 
     def __repr__(self) -> str:
+        return f"Plan({self._shown()})"
+
+    def _shown(self) -> str:
         disks = "disk " + str(self.disks[0]) if len(self.disks) == 1 else "disks " + ", ".join(map(str, self.disks))
         wanted = ", symbols " + ", ".join(map(str, self.wanted)) if self.wanted else ""
-        return f"Plan({disks}{wanted}, {len(self.steps)} steps, reads {self.reads} symbols)"
+        return f"{disks}{wanted}, {len(self.steps)} steps, reads {self.reads} symbols"

@@ -32,6 +32,7 @@ REASONS = {
     37: "the buffer is shorter than the code sheet",
     38: "the array has no such symbol",
     41: "more than 16 symbols survive, too many to look for the fewest reads",
+    42: "a disk is neither away, nor idle at a price of 0 to 1,000,000, nor busy at such a price and a factor of 1 to 64",
 }
 """The sentences of navorzim.h's navorzim_reason."""
 
@@ -47,6 +48,7 @@ PLACES = {
     24: "entry {place}",
     25: "step {place}",
     41: "{place} symbols survive",
+    42: "disk {place}",
 }
 """What a place says, for those numbers that have one."""
 

@@ -8,9 +8,10 @@ What a call is lent lies between guard bytes, at an odd place, and those must st
 import sys
 import unittest
 import unittest.mock
+from array import array
 from itertools import combinations
 from pathlib import Path
-from typing import Any, Callable, Optional, Union
+from typing import Any, Callable, Optional, Sequence, Union
 
 sys.path.insert(0, str(Path(__file__).resolve().parents[2] / "tests"))
 
@@ -19,11 +20,12 @@ from arrays import SPECIAL_CODES, below, chosen, random_bytes, random_code, shuf
 from second_checker import check, plan_sheet, set_sheet
 from second_fewest import Given, Gone, families, judge, sets_in_range, units
 from second_planner import SET_BUFFER, Wish, for_disk, for_disks, how_much_is_gone, image, judge_patterns, judge_plan, planning_refusal
+from second_priced import FACTORS, NO_FACTORS, NO_PRICES, PRICES, Known, Priced, State, any_state, bits, counting, judge_priced, states_of, with_away
 from second_rebuild import rebuild
 from second_soundness import SOUND, equations_refusal, judge_equations, test_survivors
 
 import navorzim.code
-from navorzim import Code, NoPlan, Plan, Refused, Unsound, library
+from navorzim import Away, Busy, Code, Idle, NoPlan, Plan, PricedPlan, Refused, Unsound, library
 
 ASKED: "set[str]" = set()
 """The calls of the library that were asked."""
@@ -64,6 +66,18 @@ class Guarded:
         return bytes(self.view)
 
 
+class GuardedDoubles:
+    """Doubles between others that must stay, as a view; these would be good prices and factors."""
+
+    def __init__(self, content: Sequence[float]) -> None:
+        self.whole = array("d", [1.0, *content, 1.0])
+        self.view = memoryview(self.whole)[1:-1]
+        self.before = self.whole.tobytes()
+
+    def unchanged(self) -> bool:
+        return self.whole.tobytes() == self.before
+
+
 def answer(call: Callable[[], Any]) -> Any:
     """What a call answers, or its refusal as the second program has it."""
     try:
@@ -75,6 +89,11 @@ def answer(call: Callable[[], Any]) -> Any:
 def some(content: bytes) -> Any:
     """The bytes as one of the types that are taken."""
     return chosen(KINDS)(content)
+
+
+def as_state(state: State) -> Any:
+    """A state of the second program as the package has it."""
+    return Away() if state is None else Busy(*state) if isinstance(state, tuple) else Idle(state)
 
 
 def any_codes() -> "list[second.Code]":
@@ -177,6 +196,37 @@ class Calls(unittest.TestCase):
         self.assertEqual((planned.length, planned.reads), (len(written), given.reads if written else 0))
         self.assertEqual((planned.number, planned.place), given if isinstance(given, second.Refusal) else (0, 0))
 
+    def hold_priced(self, code: second.Code, mine: Code, disks: bytes, listed: bytes, told: "list[State]") -> Any:
+        """Which swaps are made is free: a plan is held to start and equations of the package. The same is asked of the library with guards around
+        all that it is lent."""
+        sheet, wish, states = second.sheet_of(code), for_disks(disks, listed), states_of(told)
+        given: Any
+        try:
+            plan = answer(lambda: mine.plan_priced(chosen((list, tuple, bytes))(disks), chosen((list, tuple, iter))([*map(as_state, told)]), listed))
+            given = Priced(plan.sheet, plan.reads, plan.settled, plan.sum) if isinstance(plan, PricedPlan) else plan
+        except NoPlan as why:
+            lost = with_away(code, wish, states)
+            given = Gone(why.patterns)
+            self.assertEqual(why.patterns, mine.lost_patterns(lost.disks, lost.listed or b""))
+
+        def known(lost: Wish) -> Known:
+            equations = [sum(1 << symbol for symbol in equation) for equation in mine.equations(lost.disks)]
+            return Known(mine.plan_disks(lost.disks, lost.listed or b"").sheet, equations)
+
+        self.assertIsNone(judge_priced(sheet, wish, states, SET_BUFFER, given, known))
+        read, buffer = [Guarded(lent) for lent in (sheet, disks, listed, bytes(states.kinds))], Guarded(random_bytes(33) * 98)
+        numbers, before = [GuardedDoubles(states.prices), GuardedDoubles(states.factors)], buffer.content()
+        priced = ask("plan_priced", *(lent.view for lent in (*read, *numbers, buffer)))
+        self.assertEqual([lent.content() for lent in read], [sheet, disks, listed, bytes(states.kinds)])
+        self.assertTrue(all(lent.unchanged() for lent in numbers))
+        written = given.plan if isinstance(given, Priced) else b""
+        self.assertEqual(buffer.content(), written + before[len(written) :])
+        expected = (len(written), given.reads, given.settled, bits(given.sum)) if isinstance(given, Priced) else (0, 0, 0, bits(0.0))
+        self.assertEqual((priced.length, priced.reads, priced.settled, bits(priced.sum)), expected)
+        self.assertEqual((priced.number, priced.place), given if isinstance(given, second.Refusal) else (0, 0))
+        self.assertEqual((priced.pattern, priced.patterns), (given.patterns[0], len(given.patterns)) if isinstance(given, Gone) else (0, 0))
+        return given
+
     def hold_patterns(self, code: second.Code, mine: Code, disks: bytes, listed: bytes) -> None:
         """Which patterns is free; that there are as many as are gone, none where there is a plan, is not."""
         sheet, wish = second.sheet_of(code), for_disks(disks, listed)
@@ -231,6 +281,7 @@ class Calls(unittest.TestCase):
                 plan = self.plan(code, for_disks(bytes(disks), bytes(listed)), lambda: mine.plan_disks(chosen((list, tuple, bytes))(disks), listed))
                 self.hold_patterns(code, mine, bytes(disks), bytes(listed))
                 self.hold_fewest(code, mine, bytes(disks), bytes(listed))
+                self.hold_priced(code, mine, bytes(disks), bytes(listed), [any_state(6) for _ in range(code.disks + chosen((0, 0, 1)))])
                 stripe = random_bytes(code.symbols * size)
                 if plan:
                     self.hold(code, mine, disks, plan.sheet, size, stripe)
@@ -256,6 +307,54 @@ class Calls(unittest.TestCase):
         for left in (0, 1, 16, 17, 63):
             lost = sorted(shuffled(range(64))[: 64 - left])
             self.hold_fewest(units(64), Code(second.sheet_of(units(64))), bytes(lost), b"")
+
+    def test_prices(self) -> None:
+        """Prices and factors at the limits and beyond, disks away, too few states, sums whose last bit goes by the order, many swaps."""
+        code = second.SQUARE
+        mine = Code(second.sheet_of(code))
+        for disk in range(4):
+            for price in PRICES + NO_PRICES:
+                for state in (price, (price, 1.5)):
+                    self.hold_priced(code, mine, b"\0", b"", [state if at == disk else 1.0 for at in range(4)])
+            for factor in FACTORS + NO_FACTORS:
+                self.hold_priced(code, mine, b"\0", b"", [(0.1, factor) if at == disk else 1.0 for at in range(4)])
+            for far in (10**400, -(10**400), 2**64, 2**1024, 1_000_001):
+                states = [Idle(far if at == disk else 1) for at in range(4)]
+                self.assertEqual(answer(lambda: mine.plan_priced([0], states)), second.Refusal(42, disk))
+                states[disk] = Busy(1, far)
+                self.assertEqual(answer(lambda: mine.plan_priced([0], states)), second.Refusal(42, disk))
+            self.hold_priced(code, mine, b"\0", b"", [1.0] * disk)
+        for away in range(16):
+            states_away: "list[State]" = [None if away >> at & 1 else 0.3 for at in range(4)]
+            for disks, listed in ((b"\0", b""), (b"\0", b"\1"), (b"\1\3", b""), (b"\1\3", b"\2\6")):
+                self.hold_priced(code, mine, disks, listed, states_away)
+        for prices, total in (((0.1, 0.2, 0.3), 0.6000000000000001), ((0.3, 0.2, 0.1), 0.6)):
+            parity = second.single_parity(3, 1)
+            self.assertEqual(self.hold_priced(parity, Code.single_parity(3, 1), b"\3", b"", [*prices, 1.0]).sum, total)
+        # what comes after the last disk isn't looked at, whatever it is
+        self.assertEqual(mine.plan_priced([0], [Idle(1)] * 4 + [None]).sum, 3.0)
+        settled = set()
+        for number in (1023, 1024, 1025, 2047):
+            array_, states = counting(number)
+            told: "list[State]" = list(states.prices)
+            settled.add(self.hold_priced(array_, Code(second.sheet_of(array_)), b"\0", b"", told).settled)
+        self.assertEqual(settled, {False, True})
+
+    def test_a_priced_plan_is_run(self) -> None:
+        """With a disk lost and another away: what is wanted comes back, and the away disk's bytes stay."""
+        code = Code.liberation(5, 4)
+        for lost, away in combinations(range(code.disks), 2):
+            states = [Away() if disk == away else Idle(1 + disk) for disk in range(code.disks)]
+            plan = code.plan_priced([lost], states)
+            stripe = code.encode(3, random_bytes(code.data_symbols * 3))
+            whole = bytes(stripe)
+            ruin = random_bytes(code.rows * 3)
+            for disk in (lost, away):
+                code.strip(disk, 3, stripe)[:] = ruin
+            code.rebuild(plan.disks, plan, 3, stripe)
+            self.assertEqual(bytes(code.strip(away, 3, stripe)), ruin)
+            code.strip(away, 3, stripe)[:] = code.strip(away, 3, whole)
+            self.assertEqual(stripe, whole)
 
     def hold_survivors(self, code: second.Code, mine: Code, disks: Any, size: int, stripe: bytes) -> None:
         """Equations and test. Which list of equations is free."""
@@ -298,6 +397,8 @@ class Calls(unittest.TestCase):
             self.assertEqual(answer(lambda: code.plan_wanted(0, [1, entry])), second.Refusal(23, 1))
             self.assertEqual(answer(lambda: code.plan_fewest([0, entry])), second.Refusal(7))
             self.assertEqual(answer(lambda: code.plan_fewest([0, 1], [0, 1, entry])), second.Refusal(23, 2))
+            self.assertEqual(answer(lambda: code.plan_priced([0, entry], [Idle(1)] * 6)), second.Refusal(7))
+            self.assertEqual(answer(lambda: code.plan_priced([0, 1], [Idle(1)] * 6, [0, 1, entry])), second.Refusal(23, 2))
             self.assertEqual(answer(lambda: code.check([entry], code.plan(0))), second.Refusal(7))
             self.assertEqual(answer(lambda: code.test_survivors([0, entry], 1, bytes(24))), second.Refusal(7))
             self.assertEqual(answer(lambda: code.equations([entry, 0])), second.Refusal(7))

@@ -19,7 +19,7 @@ from pathlib import Path
 from typing import Any, Callable, Optional
 
 import navorzim
-from navorzim import Code, NoPlan, Plan, Refused, Unsound, library, refusals
+from navorzim import Away, Busy, Code, Idle, NoPlan, Plan, PricedPlan, Refused, Unsound, library, refusals
 
 PYTHON = Path(__file__).resolve().parents[1]
 HEADER = (PYTHON.parent / "include" / "navorzim.h").read_text("utf-8")
@@ -28,7 +28,7 @@ BUILT = library.LIBRARY._name
 
 def load_tests(_loader: unittest.TestLoader, tests: unittest.TestSuite, _pattern: Optional[str]) -> unittest.TestSuite:
     """The examples of the documentation are tests too."""
-    for module in ("navorzim", "navorzim.code", "navorzim.plans", "navorzim.refusals"):
+    for module in ("navorzim", "navorzim.code", "navorzim.plans", "navorzim.prices", "navorzim.refusals"):
         tests.addTests(doctest.DocTestSuite(module))
     return tests
 
@@ -48,7 +48,7 @@ class Types(unittest.TestCase):
     code = Code.row_diagonal(3)
 
     def test_wrong_types_are_refused(self) -> None:
-        code, plan, stripe, data = self.code, self.code.plan(0), bytearray(8), bytes(4)
+        code, plan, stripe, data, idle = self.code, self.code.plan(0), bytearray(8), bytes(4), [Idle(1)] * 4
         scattered = memoryview(bytearray(16))[::2]
         for wrong in (
             lambda: Code("sheet"),
@@ -78,6 +78,18 @@ class Types(unittest.TestCase):
             lambda: code.plan_fewest(0),
             lambda: code.plan_fewest(["0"]),
             lambda: code.plan_fewest([0], 1.0),
+            lambda: code.plan_priced(0, idle),
+            lambda: code.plan_priced([0], None),
+            lambda: code.plan_priced([0], Idle(1)),
+            lambda: code.plan_priced([0], [1.0] * 4),
+            lambda: code.plan_priced([0], [Away] * 4),
+            lambda: code.plan_priced([0], {disk: Idle(1) for disk in range(4)}),
+            lambda: code.plan_priced([0], [Idle("1")] * 4),
+            lambda: code.plan_priced([0], [Idle(None)] * 4),
+            lambda: code.plan_priced([0], [Idle(1j)] * 4),
+            lambda: code.plan_priced([0], [Busy(1, [2])] * 4),
+            lambda: code.plan_priced([0], idle, 1),
+            lambda: code.plan_priced([0], idle, ["1"]),
             lambda: code.lost_patterns(0),
             lambda: code.lost_patterns(["0"]),
             lambda: code.lost_patterns([0], 1),
@@ -204,9 +216,14 @@ class Types(unittest.TestCase):
     def test_values(self) -> None:
         code, plan = self.code, self.code.plan_disks([0, 2])
         refused, why, more = Refused(22, 7), NoPlan(4), NoPlan(5, 2**100, 2)
-        for value in (code, plan):
+        priced = code.plan_priced([0], [Idle(1), Idle(0.5), Away(), Busy(1, 2)])
+        for value in (code, plan, priced, Away(), Idle(1.5), Busy(1.5, 2.5)):
             self.assertEqual(pickle.loads(pickle.dumps(value)), value)
             self.assertEqual(hash(pickle.loads(pickle.dumps(value))), hash(value))
+        stopped = PricedPlan(priced.sheet, priced.reads, priced.sum, False)
+        self.assertEqual(repr(priced), f"PricedPlan(disks 0, 2, symbols 0, 1, {len(priced.steps)} steps, reads 4 symbols, sum 5.0)")
+        self.assertEqual(repr(stopped), repr(priced)[:-1] + ", stopped)")
+        self.assertEqual(len({priced, stopped, Plan(priced.sheet, priced.reads), Idle(1.5), Idle(2.5), Busy(1.5, 1.0)}), 6)
         self.assertNotEqual(code, Code.row_diagonal(5))
         self.assertNotEqual(code, code.sheet)
         self.assertEqual((bytes(code), bytes(plan)), (code.sheet, plan.sheet))
@@ -217,8 +234,10 @@ class Types(unittest.TestCase):
         self.assertEqual(str(more), "no plan can be: data symbols 0 and 2 could be other ones, which is one pattern of 3")
         self.assertEqual(more.data_symbols, ((0, 2), (100,), (1,)))
         self.assertRaises(AttributeError, setattr, code, "disks", 3)
-        self.assertRaises(AttributeError, setattr, plan, "reads", 3)
+        for value, name in ((plan, "reads"), (priced, "sum"), (priced, "sheet"), (Idle(1), "price"), (Busy(1, 2), "factor")):
+            self.assertRaises(AttributeError, setattr, value, name, 3)
         self.assertEqual(code.check([0, 2], Plan(plan.sheet, 0)), plan.reads)
+        self.assertEqual(code.check(priced.disks, priced), priced.reads)
 
 
 class Header(unittest.TestCase):
@@ -260,16 +279,25 @@ class Header(unittest.TestCase):
 
     def test_calls(self) -> None:
         """Each call of the header with its answer and its parameters."""
-        kinds = {"uint64_t": library.NUMBER, "const uint8_t *": library.READ, "uint8_t *": library.WRITTEN}
+        kinds = {
+            "uint64_t": library.NUMBER,
+            "const uint8_t *": library.READ,
+            "const double *": library.DOUBLES,
+            "uint8_t *": library.WRITTEN,
+        }
         found = {}
         for answer, call, parameters in re.findall(r"^navorzim_(\w+) navorzim_(\w+)\(([^)]*)\);", HEADER, re.M):
-            types = [re.match(r"\s*(const uint8_t \*|uint8_t \*|\w+)", parameter)[1] for parameter in parameters.split(",")]
+            types = [re.match(r"\s*(const \w+ \*|uint8_t \*|\w+)", parameter)[1] for parameter in parameters.split(",")]
             found[call] = (answer, tuple(kinds[kind] for kind in types if kind != "size_t"))
         self.assertEqual(library.CALLS, found)
 
     def test_answers(self) -> None:
-        structs = re.findall(r"typedef struct \{\s*uint64_t ([\w, ]+);\s*\} navorzim_(\w+);", HEADER)
-        self.assertEqual(library.FIELDS, {name: tuple(fields.split(", ")) for fields, name in structs})
+        found, floats = {}, set()
+        for lines, name in re.findall(r"typedef struct \{([^}]*)\} navorzim_(\w+);", HEADER):
+            declared = re.findall(r"(uint64_t|double) ([\w, ]+);", lines)
+            found[name] = tuple(field for _, fields in declared for field in fields.split(", "))
+            floats |= {field for kind, fields in declared for field in fields.split(", ") if kind == "double"}
+        self.assertEqual((library.FIELDS, set(library.FLOATS)), (found, floats))
 
 
 class Finding(unittest.TestCase):
