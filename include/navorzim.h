@@ -225,8 +225,8 @@
  * 1.0.0 with the second: programs find the shared library by these. */
 #define NAVORZIM_VERSION_MAJOR 0
 #define NAVORZIM_VERSION_MINOR 2
-#define NAVORZIM_VERSION_PATCH 2
-#define NAVORZIM_VERSION "0.2.2"
+#define NAVORZIM_VERSION_PATCH 3
+#define NAVORZIM_VERSION "0.2.3"
 
 /* Every answer may be a refusal, so a compiler warns where one is thrown away. */
 #if defined(__cplusplus) && __cplusplus >= 201703L

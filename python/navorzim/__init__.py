@@ -27,5 +27,5 @@ from .plans import Plan, Step
 from .prices import Away, Busy, Idle, PricedPlan, State
 from .refusals import NoPlan, Refused, Unsound
 
-__version__ = "0.2.2"
+__version__ = "0.2.3"
 __all__ = ["Away", "Busy", "Code", "Idle", "NoPlan", "Plan", "PricedPlan", "Readable", "Refused", "State", "Step", "Unsound", "Writable"]
