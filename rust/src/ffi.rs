@@ -57,6 +57,21 @@ pub struct Planned {
     pub patterns: u64,
 }
 
+/// Disks that were planned for at prices: as above, with whether no swap lowers the sum, 1 or 0, and the sum.
+#[repr(C)]
+#[derive(Clone, Copy)]
+pub struct Priced {
+    pub number: u64,
+    pub place: u64,
+    pub length: u64,
+    pub reads: u64,
+    pub settled: u64,
+    pub sum: f64,
+    pub pattern: u64,
+    pub pattern_high: u64,
+    pub patterns: u64,
+}
+
 /// A set of data symbols, or of symbols: the low 64 and the high 64 of 128 bits.
 #[repr(C)]
 #[derive(Clone, Copy)]
@@ -97,6 +112,7 @@ pub struct Part {
 
 type Bytes = *const u8;
 type BytesMut = *mut u8;
+type Floats = *const f64;
 
 extern "C" {
     fn navorzim_read_code(sheet: Bytes, sheet_length: usize) -> Code;
@@ -152,6 +168,22 @@ extern "C" {
         buffer: BytesMut,
         buffer_length: usize,
     ) -> Planned;
+    fn navorzim_plan_priced(
+        sheet: Bytes,
+        sheet_length: usize,
+        disks: Bytes,
+        disks_length: usize,
+        wanted: Bytes,
+        wanted_length: usize,
+        kinds: Bytes,
+        kinds_length: usize,
+        prices: Floats,
+        prices_length: usize,
+        factors: Floats,
+        factors_length: usize,
+        buffer: BytesMut,
+        buffer_length: usize,
+    ) -> Priced;
     fn navorzim_lost_pattern(
         sheet: Bytes,
         sheet_length: usize,
@@ -319,6 +351,35 @@ pub fn plan_fewest(sheet: &[u8], disks: &[u8], wanted: &[u8], buffer: &mut [u8])
             disks.len(),
             wanted.as_ptr(),
             wanted.len(),
+            buffer.as_mut_ptr(),
+            buffer.len(),
+        )
+    }
+}
+
+pub fn plan_priced(
+    sheet: &[u8],
+    disks: &[u8],
+    wanted: &[u8],
+    kinds: &[u8],
+    prices: &[f64],
+    factors: &[f64],
+    buffer: &mut [u8],
+) -> Priced {
+    unsafe {
+        navorzim_plan_priced(
+            sheet.as_ptr(),
+            sheet.len(),
+            disks.as_ptr(),
+            disks.len(),
+            wanted.as_ptr(),
+            wanted.len(),
+            kinds.as_ptr(),
+            kinds.len(),
+            prices.as_ptr(),
+            prices.len(),
+            factors.as_ptr(),
+            factors.len(),
             buffer.as_mut_ptr(),
             buffer.len(),
         )

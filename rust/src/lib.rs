@@ -28,13 +28,15 @@
 //! ```
 //!
 //! Where one record is enough, [`plan_wanted`] plans for some of the lost symbols. [`check`] and [`rebuild`] take its plan like any
-//! other. [`plan_into`], [`plan_wanted_into`], [`plan_disks_into`] and [`plan_fewest_into`] write to a buffer of the caller's; where
-//! there is a plan they allocate nothing.
+//! other. [`plan_into`], [`plan_wanted_into`], [`plan_disks_into`], [`plan_fewest_into`] and [`plan_priced_into`] write to a buffer of
+//! the caller's; where there is a plan they allocate nothing.
 //!
 //! Where more than one disk is lost, [`plan_disks`], [`check_disks`] and [`rebuild_disks`] take a list of disks. The calls that take
 //! one disk mean the list of that disk.
 //!
 //! Where at most 16 symbols survive, [`plan_fewest`] plans with the fewest reads that there can be.
+//!
+//! Where some disks are dearer to read than others, or can't be read at all now, [`plan_priced`] looks for a plan that costs less.
 //!
 //! Where no plan can be, planning answers how much is gone, as [`Pattern`]s.
 //!
@@ -44,19 +46,24 @@
 
 mod ffi;
 mod pattern;
+mod prices;
 mod refusal;
 mod sets;
 mod survivors;
 
 pub use pattern::{lost_pattern, Pattern};
+pub use prices::{plan_priced, plan_priced_into, DiskState, PricedPlanned, PricedPlanning, Search};
 pub use refusal::{Refusal, WantedSymbol};
 pub use survivors::{equations, test_survivors, Equation, Soundness};
+
+use pattern::all_patterns;
 
 /// The length of the longest code sheet.
 pub const LONGEST_CODE_SHEET: usize = 518;
 
 /// The length of the longest plan sheet. A buffer of this length is enough for every plan: [`plan_into`] asks for 3,081 bytes or
-/// more, [`plan_wanted_into`] for 3,114 or more, [`plan_disks_into`] and [`plan_fewest_into`] for as many as this or more.
+/// more, [`plan_wanted_into`] for 3,114 or more, [`plan_disks_into`], [`plan_fewest_into`] and [`plan_priced_into`] for as many as this
+/// or more.
 pub const PLAN_BUFFER: usize = 3210;
 
 /// A family of codes that can be asked for by name.
@@ -394,9 +401,8 @@ fn planned(answer: ffi::Planned, sheet: &[u8], disks: &[u8], wanted: &[u8]) -> R
     if answer.length > 0 {
         return Ok(Planned::Plan { length: answer.length as usize, reads: answer.reads });
     }
-    let first = Pattern(sets::of_words(answer.pattern, answer.pattern_high));
-    let others = (1..answer.patterns).filter_map(|index| lost_pattern(sheet, disks, wanted, index).transpose());
-    Ok(Planned::NoPlan { patterns: std::iter::once(Ok(first)).chain(others).collect::<Result<_, _>>()? })
+    let first = Pattern::of_words(answer.pattern, answer.pattern_high);
+    Ok(Planned::NoPlan { patterns: all_patterns(first, answer.patterns, sheet, disks, wanted)? })
 }
 
 /// Plans into a buffer of its own, which becomes the plan.

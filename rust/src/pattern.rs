@@ -35,6 +35,11 @@ pub struct Pattern(
 );
 
 impl Pattern {
+    /// The pattern whose bits are in two words.
+    pub(crate) fn of_words(low: u64, high: u64) -> Pattern {
+        Pattern(sets::of_words(low, high))
+    }
+
     /// Whether it has a data symbol.
     pub fn has(self, data_symbol: usize) -> bool {
         sets::has(self.0, data_symbol)
@@ -77,6 +82,18 @@ impl Pattern {
 /// ```
 pub fn lost_pattern(sheet: &[u8], disks: &[u8], wanted: &[u8], index: u64) -> Result<Option<Pattern>, Refusal> {
     let set = ffi::lost_pattern(sheet, disks, wanted, index);
-    let pattern = Pattern(sets::of_words(set.low, set.high));
+    let pattern = Pattern::of_words(set.low, set.high);
     unless_refused(set.number, set.place, Some(pattern).filter(|pattern| pattern.0 != 0))
+}
+
+/// The patterns of planning's answer for these lists: the first, which the answer has, and so many in all.
+pub(crate) fn all_patterns(
+    first: Pattern,
+    count: u64,
+    sheet: &[u8],
+    disks: &[u8],
+    wanted: &[u8],
+) -> Result<Vec<Pattern>, Refusal> {
+    let others = (1..count).filter_map(|index| lost_pattern(sheet, disks, wanted, index).transpose());
+    std::iter::once(Ok(first)).chain(others).collect()
 }

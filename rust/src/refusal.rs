@@ -153,6 +153,12 @@ pub enum Refusal {
         /// How many symbols survive.
         survivors: u64,
     },
+    /// Refusal 42 is given when a plan at prices is asked for and a disk is neither away, nor idle at a price from 0 to 1,000,000, nor busy
+    /// at such a price and a factor from 1 to 64, or no state is given for it. Its place is the lowest such disk.
+    BadDiskState {
+        /// The disk.
+        disk: u64,
+    },
     /// A number that the table does not have is kept as it came, with its place. The library that this crate builds and links never
     /// gives one; another library's refusal would still be a refusal, and never taken for a listed one.
     Unlisted {
@@ -201,6 +207,7 @@ impl Refusal {
             37 => SheetBufferTooShort,
             38 => NoSuchSymbol,
             41 => TooManySurvivors { survivors: place },
+            42 => BadDiskState { disk: place },
             _ => Unlisted { number, place },
         })
     }
@@ -240,6 +247,7 @@ impl Refusal {
             SheetBufferTooShort => 37,
             NoSuchSymbol => 38,
             TooManySurvivors { .. } => 41,
+            BadDiskState { .. } => 42,
             Unlisted { number, .. } => *number,
         }
     }
@@ -258,6 +266,7 @@ impl Refusal {
             WrongReadCount { true_count } => true_count,
             BadWantedList { position } | BadDiskList { position } => position,
             TooManySurvivors { survivors } => survivors,
+            BadDiskState { disk } => disk,
             Unlisted { place, .. } => place,
             CodeSheetTooShort | CodeSheetTooLong | CodeSheetCount | CodeSheetEdition | CodeBeyondLimit | NoSuchDisk => {
                 0
@@ -296,6 +305,10 @@ impl fmt::Display for Refusal {
             TooManySurvivors { survivors } => {
                 write!(f, "{survivors} symbols survive, and the fewest reads are worked out for 16 at most")
             }
+            BadDiskState { disk } => write!(
+                f,
+                "disk {disk} is neither away, nor idle at a price of 0 to 1,000,000, nor busy at such a price and a factor of 1 to 64"
+            ),
             Unlisted { number, place } => write!(f, "refusal {number} at {place}, which has no name here"),
             placeless => f.write_str(placeless.sentence()),
         }
@@ -334,7 +347,8 @@ impl Refusal {
             StrayBit { .. } | MalformedStep { .. } | TargetNotWanted { .. } | UnfilledPlaceUsed { .. } => "",
             StepOntoItself { .. } => "",
             NeverFilled { .. } | EndsWrong { .. } | WrongReadCount { .. } => "",
-            BadWantedList { .. } | BadDiskList { .. } | TooManySurvivors { .. } | Unlisted { .. } => "",
+            BadWantedList { .. } | BadDiskList { .. } | Unlisted { .. } => "",
+            TooManySurvivors { .. } | BadDiskState { .. } => "",
         }
     }
 }
@@ -376,7 +390,7 @@ mod tests {
     fn every_number_of_the_table_has_its_refusal() {
         let numbers = of_the_header();
         assert_eq!(numbers, of_the_rules());
-        assert_eq!((numbers.len(), numbers.iter().max()), (31, Some(&41)));
+        assert_eq!((numbers.len(), numbers.iter().max()), (32, Some(&42)));
         assert_eq!(given(0, 0), None);
         let mut sentences = HashSet::new();
         for number in numbers {
@@ -413,7 +427,7 @@ mod tests {
 
     #[test]
     fn places_are_kept() {
-        for number in [6, 17, 18, 19, 20, 21, 22, 23, 24, 25, 41] {
+        for number in [6, 17, 18, 19, 20, 21, 22, 23, 24, 25, 41, 42] {
             for place in [0, 1, 63, 64, 1023, 4095] {
                 for plan in [&[][..], &[6, 1], &[6, 2], &[5, 3]] {
                     let refusal = Refusal::given(number, place, WantedSymbol::naming(plan)).expect("a refusal");
@@ -428,6 +442,14 @@ mod tests {
         let refusal = given(41, 17).expect("a refusal");
         assert_eq!(refusal, Refusal::TooManySurvivors { survivors: 17 });
         assert_eq!(refusal.to_string(), "17 symbols survive, and the fewest reads are worked out for 16 at most");
+    }
+
+    #[test]
+    fn a_disk_in_a_bad_state_is_named() {
+        let refusal = given(42, 63).expect("a refusal");
+        assert_eq!(refusal, Refusal::BadDiskState { disk: 63 });
+        let said = "disk 63 is neither away, nor idle at a price of 0 to 1,000,000, nor busy at such a price and a factor of 1 to 64";
+        assert_eq!(refusal.to_string(), said);
     }
 
     #[test]

@@ -41,7 +41,7 @@ fn judged(random: &mut Random, sheet: &[u8], disks: &[u8], list: &[u8], before: 
             assert_eq!(plan[..head.len()], head, "{}", context());
             assert_eq!(model::check_disks(sheet, disks, plan), Ok(reads), "{}", context());
             steps_within_the_bound(&code, disks, &model::read_plan(&code, disks, plan).expect("a whole sheet"));
-            runs(random, &code, disks, &wanted, plan);
+            model::rebuilds(random, &code, disks, &wanted, plan);
             Came::Plan { reads, usual }
         }
         (Planned::NoPlan { patterns }, Planning::NoPlan { patterns: usual }) => {
@@ -51,28 +51,6 @@ fn judged(random: &mut Random, sheet: &[u8], disks: &[u8], list: &[u8], before: 
         }
         (answer, usual) => panic!("{answer:?}, but planning answers {usual:?}: {}", context()),
     }
-}
-
-/// A plan run on a stripe whose lost strips are ruined: the wanted symbols come back, and no other byte changes.
-fn runs(random: &mut Random, code: &Code, disks: &[u8], wanted: &[usize], plan: &[u8]) {
-    let size = 1 + random.below(3);
-    let whole = model::scatter(code, size, &random.bytes(code.data * size));
-    let (mut stripe, mut expected) = (whole.clone(), whole.clone());
-    for s in code.strips(disks) {
-        let ruin = random.bytes(size);
-        stripe[s * size..(s + 1) * size].copy_from_slice(&ruin);
-        if !wanted.contains(&s) {
-            expected[s * size..(s + 1) * size].copy_from_slice(&ruin);
-        }
-    }
-    let answer = told(navorzim::rebuild_disks(&code.sheet(), disks, plan, size as u64, &mut stripe));
-    assert_eq!((answer, stripe), (Ok(()), expected), "{code:?} {disks:?} {plan:?}");
-}
-
-/// A buffer of the right length or more.
-fn buffer(random: &mut Random) -> Vec<u8> {
-    let length = navorzim::PLAN_BUFFER + random.pick(&[0, 0, 0, 1, 50]);
-    random.bytes(length)
 }
 
 /// A code, and disks of it without which 0 to 18 symbols survive.
@@ -103,7 +81,7 @@ fn planning() {
         let mut sheet = code.sheet();
         let mut list = if random.one_in(2) { Vec::new() } else { random::list(&mut random, &code, &disks) };
         let survivors = code.survivors(&disks).len();
-        let mut before = buffer(&mut random);
+        let mut before = random::buffer(&mut random);
         // Up to two things are wrong, so that orders are seen.
         for _ in 0..if random.one_in(3) { 2 } else { 0 } {
             match random.below(5) {
@@ -155,7 +133,7 @@ fn families() {
                 (0..n).map(|disk| vec![disk]).chain((0..n).map(without)).chain([(0..n).collect()]).collect()
             }
         };
-        let before = buffer(&mut random);
+        let before = random::buffer(&mut random);
         for disks in sets {
             match judged(&mut random, &sheet, &disks, &[], &before) {
                 Came::Plan { reads, usual } => {
@@ -237,7 +215,7 @@ fn refusals() {
         assert_eq!(model::fewest_refusal(sheet, disks, list, length).err(), Some(no), "the model");
     }
     let mut random = Random::new(44);
-    let before = buffer(&mut random);
+    let before = random::buffer(&mut random);
     for (sheet, disks, came) in [
         (&in_range, &[16][..], Came::Plan { reads: 16, usual: 16 }),
         (&in_range, &[0, 1], Came::Gone(1)),
@@ -254,7 +232,7 @@ fn refusals() {
 #[test]
 fn worked_cases() {
     let mut random = Random::new(45);
-    let before = buffer(&mut random);
+    let before = random::buffer(&mut random);
     let code = |disks: usize, height: usize, data: usize, rows: &[u64]| {
         let rows = rows.iter().map(|row| (0..data).map(|t| row >> t & 1 == 1).collect()).collect();
         Code { disks, height, data, rows }.sheet()

@@ -1,11 +1,12 @@
 //! The rules once more, in plain Rust and by other means than the proved library: rows are lists of truth values, a lost place is a
 //! value that may be missing, a good list is found among all disks or all lost symbols from front to back, encoding scatters each data
-//! symbol, how much of the wanted symbols is gone is a question of ranks, survivors are tested by data that give some of them, and the
-//! fewest reads are found by trying every set of survivors.
+//! symbol, how much of the wanted symbols is gone is a question of ranks, survivors are tested by data that give some of them, the
+//! fewest reads are found by trying every set of survivors, and what reads cost is worked out on whole numbers.
 #![allow(dead_code)]
 use std::cmp::Ordering;
 use std::collections::HashSet;
 
+pub mod prices;
 pub mod random;
 
 /// A refusal's number and place.
@@ -492,6 +493,23 @@ pub fn steps_within_the_bound(code: &Code, disks: &[u8], plan: &Plan) {
     } else {
         assert!(plan.steps.len() <= lost * (code.symbols() - lost), "{} steps", plan.steps.len());
     }
+}
+
+/// A plan for lost disks, run by the library on a stripe whose lost strips are ruined: the wanted symbols come back, and no other byte
+/// changes.
+pub fn rebuilds(random: &mut random::Random, code: &Code, lost: &[u8], wanted: &[usize], plan: &[u8]) {
+    let size = 1 + random.below(3);
+    let whole = scatter(code, size, &random.bytes(code.data * size));
+    let (mut stripe, mut expected) = (whole.clone(), whole.clone());
+    for s in code.strips(lost) {
+        let ruin = random.bytes(size);
+        stripe[s * size..(s + 1) * size].copy_from_slice(&ruin);
+        if !wanted.contains(&s) {
+            expected[s * size..(s + 1) * size].copy_from_slice(&ruin);
+        }
+    }
+    let answer = told(navorzim::rebuild_disks(&code.sheet(), lost, plan, size as u64, &mut stripe));
+    assert_eq!((answer, stripe), (Ok(()), expected), "{code:?} {lost:?} {plan:?}");
 }
 
 /// What planning with the fewest reads must refuse: what planning for a list of disks does, then 41 at the number of survivors. Otherwise

@@ -44,6 +44,12 @@ pub fn calls(count: usize) -> usize {
     count
 }
 
+/// A buffer that is long enough for every plan.
+pub fn buffer(random: &mut Random) -> Vec<u8> {
+    let length = navorzim::PLAN_BUFFER + random.pick(&[0, 0, 0, 1, 50]);
+    random.bytes(length)
+}
+
 /// A code's sheet, one in four damaged.
 pub fn sheet(random: &mut Random) -> (Code, Vec<u8>) {
     let code = code(random);
