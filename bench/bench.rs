@@ -31,6 +31,19 @@ mod proved {
     }
 
     #[repr(C)]
+    struct PricedOut {
+        number: u64,
+        place: u64,
+        length: u64,
+        reads: u64,
+        settled: u64,
+        sum: f64,
+        pattern: u64,
+        pattern_high: u64,
+        patterns: u64,
+    }
+
+    #[repr(C)]
     struct Tested {
         number: u64,
         place: u64,
@@ -40,12 +53,30 @@ mod proved {
 
     type Bytes = *const u8;
     type BytesMut = *mut u8;
+    type Floats = *const f64;
 
     extern "C" {
         fn navorzim_encode(s: Bytes, sl: usize, size: u64, c: Bytes, cl: usize, stripe: BytesMut, stripe_length: usize) -> Verdict;
         fn navorzim_rebuild(s: Bytes, sl: usize, disk: u64, p: Bytes, pl: usize, size: u64, stripe: BytesMut, stripe_length: usize) -> Verdict;
         fn navorzim_plan(s: Bytes, sl: usize, disk: u64, buffer: BytesMut, buffer_length: usize) -> Planned;
         fn navorzim_plan_fewest(s: Bytes, sl: usize, d: Bytes, dl: usize, w: Bytes, wl: usize, buffer: BytesMut, buffer_length: usize) -> Planned;
+        fn navorzim_plan_disks(s: Bytes, sl: usize, d: Bytes, dl: usize, w: Bytes, wl: usize, buffer: BytesMut, buffer_length: usize) -> Planned;
+        fn navorzim_plan_priced(
+            s: Bytes,
+            sl: usize,
+            d: Bytes,
+            dl: usize,
+            w: Bytes,
+            wl: usize,
+            kinds: Bytes,
+            kinds_length: usize,
+            prices: Floats,
+            prices_length: usize,
+            factors: Floats,
+            factors_length: usize,
+            buffer: BytesMut,
+            buffer_length: usize,
+        ) -> PricedOut;
         fn navorzim_check(s: Bytes, sl: usize, disk: u64, p: Bytes, pl: usize) -> Checked;
         fn navorzim_test_survivors(s: Bytes, sl: usize, d: Bytes, dl: usize, size: u64, stripe: Bytes, stripe_length: usize) -> Tested;
     }
@@ -69,6 +100,21 @@ mod proved {
     pub fn fewest(sheet: &[u8], disks: &[u8], wanted: &[u8], buffer: &mut [u8]) -> u64 {
         let (d, w, b) = ((disks.as_ptr(), disks.len()), (wanted.as_ptr(), wanted.len()), (buffer.as_mut_ptr(), buffer.len()));
         answer_of(unsafe { navorzim_plan_fewest(sheet.as_ptr(), sheet.len(), d.0, d.1, w.0, w.1, b.0, b.1) })
+    }
+
+    pub fn plan_disks(sheet: &[u8], disks: &[u8], wanted: &[u8], buffer: &mut [u8]) -> u64 {
+        let (d, w, b) = ((disks.as_ptr(), disks.len()), (wanted.as_ptr(), wanted.len()), (buffer.as_mut_ptr(), buffer.len()));
+        answer_of(unsafe { navorzim_plan_disks(sheet.as_ptr(), sheet.len(), d.0, d.1, w.0, w.1, b.0, b.1) })
+    }
+
+    pub fn priced(sheet: &[u8], disks: &[u8], wanted: &[u8], states: &super::States, buffer: &mut [u8]) -> super::Priced {
+        let (d, w, b) = ((disks.as_ptr(), disks.len()), (wanted.as_ptr(), wanted.len()), (buffer.as_mut_ptr(), buffer.len()));
+        let (k, p) = ((states.kinds.as_ptr(), states.kinds.len()), (states.prices.as_ptr(), states.prices.len()));
+        let f = (states.factors.as_ptr(), states.factors.len());
+        let out = unsafe { navorzim_plan_priced(sheet.as_ptr(), sheet.len(), d.0, d.1, w.0, w.1, k.0, k.1, p.0, p.1, f.0, f.1, b.0, b.1) };
+        let PricedOut { number, place, length, reads, pattern, pattern_high, patterns, .. } = out;
+        let answer = answer_of(Planned { number, place, length, reads, pattern, pattern_high, patterns });
+        super::Priced { answer, sum: out.sum, settled: out.settled == 1 }
     }
 
     fn answer_of(planned: Planned) -> u64 {
@@ -97,6 +143,21 @@ mod proved {
             Tested { column, .. } => 2000 + column,
         }
     }
+}
+
+/// States as C has them, an entry a disk: kinds (0 away, 1 idle, 2 busy), prices and factors.
+pub struct States {
+    kinds: Vec<u8>,
+    prices: Vec<f64>,
+    factors: Vec<f64>,
+}
+
+/// What planning at prices answers: a number as above, the sum, and whether it is settled.
+#[derive(Debug, PartialEq)]
+pub struct Priced {
+    answer: u64,
+    sum: f64,
+    settled: bool,
 }
 
 /// Jerasure's decoding of Liberation w 5, k 5 by a schedule made once and kept. It tests nothing.
@@ -561,56 +622,108 @@ mod simple {
         list.into_iter().fold(0, |set, s| set | 1 << s)
     }
 
+    /// A code, the lost symbols and the wanted ones, once nothing is refused.
+    struct Asked {
+        code: Code,
+        lost: u64,
+        wanted: u64,
+    }
+
+    /// The tests of planning for lists of disks and symbols: the code sheet's, 7, 24, 23, 34.
+    fn asked(sheet: &[u8], disks: &[u8], list: &[u8], buffer_length: usize) -> Result<Asked, u64> {
+        let code = read(sheet)?;
+        if disks.iter().any(|&disk| disk as usize >= code.n) {
+            return Err(7);
+        }
+        if disks.is_empty() || disks.len() > code.n || !rises(disks) {
+            return Err(24);
+        }
+        let symbols = code.n * code.r;
+        let lost = code.strips(disks.iter().map(|&disk| disk as usize));
+        if list.len() > disks.len() * code.r || !rises(list) || list.iter().any(|&s| s as usize >= symbols || lost >> s & 1 == 0) {
+            return Err(23);
+        }
+        if buffer_length < 3210 {
+            return Err(34);
+        }
+        let wanted = if list.is_empty() { lost } else { set_of(list.iter().map(|&s| s as usize)) };
+        Ok(Asked { code, lost, wanted })
+    }
+
+    impl Code {
+        /// All symbols.
+        fn all(&self) -> u64 {
+            !0 >> (64 - self.n * self.r)
+        }
+
+        /// The symbols of some disks.
+        fn strips(&self, disks: impl Iterator<Item = usize>) -> u64 {
+            set_of(disks.flat_map(|disk| disk * self.r..(disk + 1) * self.r))
+        }
+
+        /// The rows of known symbols, and 0 for the others.
+        fn rows_of(&self, known: u64) -> [u64; 64] {
+            let mut rows = self.rows;
+            for (s, row) in rows.iter_mut().enumerate() {
+                if known >> s & 1 == 0 {
+                    *row = 0;
+                }
+            }
+            rows
+        }
+    }
+
+    /// The elements of a set that are below a bound, rising.
+    fn elements(set: u64, bound: usize) -> impl Iterator<Item = usize> {
+        (0..bound).filter(move |s| set >> s & 1 == 1)
+    }
+
     /// Planning with the fewest reads by the same method: a smallest set of survivors that is enough, then a plan from that set.
     #[inline(never)]
     pub fn fewest(sheet: &[u8], disks: &[u8], list: &[u8], buffer: &mut [u8]) -> u64 {
-        let code = match read(sheet) {
-            Ok(code) => code,
+        let Asked { code, lost, wanted } = match asked(sheet, disks, list, buffer.len()) {
+            Ok(asked) => asked,
             Err(number) => return number,
         };
-        if disks.iter().any(|&disk| disk as usize >= code.n) {
-            return 7;
-        }
-        if disks.is_empty() || disks.len() > code.n || !rises(disks) {
-            return 24;
-        }
-        let symbols = code.n * code.r;
-        let lost = set_of(disks.iter().flat_map(|&disk| disk as usize * code.r..(disk as usize + 1) * code.r));
-        if list.len() > disks.len() * code.r || !rises(list) || list.iter().any(|&s| s as usize >= symbols || lost >> s & 1 == 0) {
-            return 23;
-        }
-        if buffer.len() < 3210 {
-            return 34;
-        }
-        let survivors = (!0 >> (64 - symbols)) & !lost;
+        let survivors = code.all() & !lost;
         if survivors.count_ones() > 16 {
             return 41;
         }
-        let wanted = if list.is_empty() { lost } else { set_of(list.iter().map(|&s| s as usize)) };
         plan_from(&code, disks, list, wanted, smallest(&code, survivors, wanted).best, buffer)
     }
 
     /// An edition 3 plan for wanted symbols from known ones.
     fn plan_from(code: &Code, disks: &[u8], list: &[u8], wanted: u64, known: u64, buffer: &mut [u8]) -> u64 {
+        let rows = code.rows_of(known);
+        match sets_from(code, &rows, &eliminate(&rows[..code.n * code.r], code.k), wanted) {
+            Some(sets) => write(code, disks, list, wanted, &sets, buffer),
+            None => 999,
+        }
+    }
+
+    /// For each wanted symbol the known ones that sum to it, if there is a plan.
+    fn sets_from(code: &Code, rows: &[u64; 64], (pivots, patterns): &([u64; 64], [u64; 64]), wanted: u64) -> Option<[u64; 64]> {
         let symbols = code.n * code.r;
-        let mut rows = code.rows;
-        for (s, row) in rows.iter_mut().enumerate() {
-            if known >> s & 1 == 0 {
-                *row = 0;
-            }
+        if elements(wanted, symbols).any(|t| patterns[..code.k].iter().any(|&pattern| odd(pattern, code.rows[t]))) {
+            return None;
         }
-        let (pivots, patterns) = eliminate(&rows[..symbols], code.k);
-        let targets = || (0..symbols).filter(|t| wanted >> t & 1 == 1);
-        if targets().any(|t| patterns[..code.k].iter().any(|&pattern| odd(pattern, code.rows[t]))) {
-            return 999;
+        let mut sets = [0; 64];
+        for t in elements(wanted, symbols) {
+            sets[t] = subset_for(pivots, &rows[..symbols], code.rows[t]);
         }
+        Some(sets)
+    }
+
+    /// The edition 3 sheet of a set for each wanted symbol.
+    fn write(code: &Code, disks: &[u8], list: &[u8], wanted: u64, sets: &[u64; 64], buffer: &mut [u8]) -> u64 {
+        let symbols = code.n * code.r;
         let start = 10 + disks.len() + list.len();
         let (mut at, mut sources) = (start, 0u64);
-        for t in targets() {
-            let subset = subset_for(&pivots, &rows[..symbols], code.rows[t]);
+        for t in elements(wanted, symbols) {
+            let subset = sets[t];
             sources |= subset;
             let mut kind = 1;
-            for s in (0..symbols).filter(|s| subset >> s & 1 == 1) {
+            for s in elements(subset, symbols) {
                 buffer[at..at + 3].copy_from_slice(&[kind, t as u8, s as u8]);
                 (kind, at) = (2, at + 3);
             }
@@ -626,6 +739,116 @@ mod simple {
         buffer[8 + disks.len()..start - 2].copy_from_slice(list);
         buffer[start - 2..start].copy_from_slice(&(steps as u16).to_le_bytes());
         1000 + reads as u64
+    }
+
+    /// A disk is away, or idle at a price per symbol, or busy at a price and a factor.
+    #[derive(Clone, Copy)]
+    enum DiskState {
+        Away,
+        Idle { price: f64 },
+        Busy { price: f64, factor: f64 },
+    }
+
+    /// The states of the disks, or 42.
+    fn states_of(states: &super::States, disks: usize) -> Result<[DiskState; 64], u64> {
+        let mut told = [DiskState::Away; 64];
+        for (disk, state) in told[..disks].iter_mut().enumerate() {
+            let price = states.prices.get(disk).filter(|price| (0.0..=1_000_000.0).contains(*price));
+            let factor = states.factors.get(disk).filter(|factor| (1.0..=64.0).contains(*factor));
+            *state = match (states.kinds.get(disk), price, factor) {
+                (Some(0), _, _) => DiskState::Away,
+                (Some(1), Some(&price), _) => DiskState::Idle { price },
+                (Some(2), Some(&price), Some(&factor)) => DiskState::Busy { price, factor },
+                _ => return Err(42),
+            };
+        }
+        Ok(told)
+    }
+
+    /// What a search for cheaper sets goes by: the disks' strips and states, the wanted symbols and the equations.
+    struct Swaps<'a> {
+        strips: &'a [u64],
+        states: &'a [DiskState],
+        wanted: u64,
+        equations: &'a [u64],
+    }
+
+    impl Swaps<'_> {
+        /// The charges of the disks, added in their order.
+        fn sum_of(&self, read: u64) -> f64 {
+            let mut sum = 0.0;
+            for (strip, state) in self.strips.iter().zip(self.states) {
+                let reads = (read & strip).count_ones() as f64;
+                sum += match *state {
+                    DiskState::Away => 0.0,
+                    DiskState::Idle { price } => reads * price,
+                    DiskState::Busy { price, factor } => reads * price * factor,
+                };
+            }
+            sum
+        }
+
+        /// The first swap that lowers the sum, of some symbols: the symbol, and what its set becomes.
+        fn among(&self, sets: &[u64; 64], cost: f64, targets: std::ops::Range<usize>) -> Option<(usize, u64)> {
+            for target in targets.filter(|t| self.wanted >> t & 1 == 1) {
+                let own = sets[target];
+                let others = sets[..target].iter().chain(&sets[target + 1..]).fold(0, |read, set| read | set);
+                for equation in self.equations {
+                    if self.sum_of(others | (own ^ equation)) < cost {
+                        return Some((target, own ^ equation));
+                    }
+                }
+            }
+            None
+        }
+
+        /// Swaps until none lowers the sum or 1,024 are made: the sum, and whether none does.
+        fn settle(&self, sets: &mut [u64; 64], symbols: usize) -> (f64, bool) {
+            let mut cost = self.sum_of(sets.iter().fold(0, |read, set| read | set));
+            let (mut swaps, mut from) = (0, 0);
+            while let Some((target, set)) = self.among(sets, cost, from..symbols).or_else(|| self.among(sets, cost, 0..from)) {
+                if swaps == 1024 {
+                    return (cost, false);
+                }
+                sets[target] = set;
+                cost = self.sum_of(sets.iter().fold(0, |read, set| read | set));
+                (swaps, from) = (swaps + 1, target);
+            }
+            (cost, true)
+        }
+    }
+
+    /// Planning at prices by the same method: the plan of ordinary planning with the away disks lost too, then the same swaps.
+    #[inline(never)]
+    pub fn priced(sheet: &[u8], disks: &[u8], list: &[u8], states: &super::States, buffer: &mut [u8]) -> super::Priced {
+        let refused = |answer: u64| super::Priced { answer, sum: 0.0, settled: false };
+        let Asked { code, lost, wanted } = match asked(sheet, disks, list, buffer.len()) {
+            Ok(asked) => asked,
+            Err(number) => return refused(number),
+        };
+        let states = match states_of(states, code.n) {
+            Ok(states) => states,
+            Err(number) => return refused(number),
+        };
+        let symbols = code.n * code.r;
+        let lost = lost | code.strips((0..code.n).filter(|&disk| matches!(states[disk], DiskState::Away)));
+        let rows = code.rows_of(code.all() & !lost);
+        let eliminated = eliminate(&rows[..symbols], code.k);
+        let Some(mut sets) = sets_from(&code, &rows, &eliminated, wanted) else { return refused(999) };
+        let (mut equations, mut count) = ([0; 64], 0);
+        for s in elements(code.all() & !lost, symbols).filter(|&s| eliminated.0[s] == 0) {
+            equations[count] = subset_for(&eliminated.0, &rows[..symbols], rows[s]) ^ 1 << s;
+            count += 1;
+        }
+        let mut strips = [0; 64];
+        for (disk, strip) in strips[..code.n].iter_mut().enumerate() {
+            *strip = code.strips([disk].into_iter());
+        }
+        let swaps = Swaps { strips: &strips[..code.n], states: &states, wanted, equations: &equations[..count] };
+        let (sum, settled) = swaps.settle(&mut sets, symbols);
+        let lost_disks: Vec<u8> = (0..code.n).filter(|&disk| lost & strips[disk] != 0).map(|disk| disk as u8).collect();
+        let list: Vec<u8> = elements(wanted, symbols).map(|s| s as u8).collect();
+        super::Priced { answer: write(&code, &lost_disks, &list, wanted, &sets, buffer), sum, settled }
     }
 
     /// The test by the same equations, with one pass over the bytes for each symbol of an equation.
@@ -758,13 +981,18 @@ fn row_diagonal_sheet(p: usize) -> Vec<u8> {
     code_sheet(p + 1, r, r * r, &rows)
 }
 
-/// The sheet of a random code on two disks of 16 rows, each of them the sum of some of so many random ones.
-fn random_sheet(k: usize, rank: usize, seed: u64) -> Vec<u8> {
+/// Numbers in which all bits are random.
+fn random_numbers(seed: u64) -> impl FnMut() -> u64 {
     let mut state = seed;
-    let mut next = || {
+    move || {
         state = state.wrapping_mul(6364136223846793005).wrapping_add(1442695040888963407);
         (state ^ state >> 29).wrapping_mul(0x2545F4914F6CDD1D)
-    };
+    }
+}
+
+/// The sheet of a random code on two disks of 16 rows, each of them the sum of some of so many random ones.
+fn random_sheet(k: usize, rank: usize, seed: u64) -> Vec<u8> {
+    let mut next = random_numbers(seed);
     let basis: Vec<u64> = (0..rank).map(|_| next() >> (64 - k)).collect();
     let mut sum = || {
         let chosen = next() >> (64 - rank);
@@ -772,6 +1000,23 @@ fn random_sheet(k: usize, rank: usize, seed: u64) -> Vec<u8> {
     };
     let rows: Vec<u64> = (0..32).map(|_| sum()).collect();
     code_sheet(2, 16, k, &rows)
+}
+
+/// The sheet of a random code with K 16 on 64 disks of one row. With 16 disks lost there are 32 equations.
+fn wide_sheet(seed: u64) -> Vec<u8> {
+    let mut next = random_numbers(seed);
+    let rows: Vec<u64> = (0..64).map(|_| next() >> 48).collect();
+    code_sheet(64, 1, 16, &rows)
+}
+
+/// A code on 64 disks of one row, and prices, for which the search for cheaper sets counts down from 2,047 one by one, so that it is stopped. Disk 0 is the sum
+/// of eleven, at the prices 1, 2, 4 and so on; eleven more, at the price 0, are the sum of the first, of the first two and so on. Those between disk 0 and
+/// these are zero, so that each is an equation, which is tried before each swap in vain.
+fn counting_sheet() -> (Vec<u8>, Vec<f64>) {
+    let (units, sums) = ((0..11).map(|i| 1 << i), (0..11).map(|j| (2 << j) - 1));
+    let rows: Vec<u64> = [2047].into_iter().chain([0; 41]).chain(units.clone()).chain(sums).collect();
+    let prices = [1.0; 42].into_iter().chain(units.map(|price| price as f64)).chain([0.0; 11]).collect();
+    (code_sheet(64, 1, 11, &rows), prices)
 }
 
 /// Of so many random codes the one for which the search branches most often: its number and its sheet.
@@ -924,6 +1169,65 @@ fn fewest() -> (Vec<(String, f64)>, f64) {
     (ratios.collect(), longest)
 }
 
+/// A line that is held to a bound: what was measured, against what, the ratio and the bound.
+struct Held {
+    what: String,
+    other: &'static str,
+    ratio: f64,
+    bound: f64,
+}
+
+/// The line of planning at prices: its ratio to simple Rust, and the time of a call of ours in milliseconds.
+fn planning_priced(what: &str, sheet: &[u8], disks: &[u8], states: &States) -> (Held, f64) {
+    let (mut ours, mut theirs) = (vec![1u8; 3210], vec![1u8; 3210]);
+    let answer = proved::priced(sheet, disks, &[], states, &mut ours);
+    assert!(answer.answer >= 1000, "{what}: {answer:?}");
+    assert_eq!(simple::priced(sheet, disks, &[], states, &mut theirs), answer, "{what}");
+    assert!(ours == theirs, "the two planners disagree: {what}");
+    let time = Instant::now();
+    proved::priced(sheet, disks, &[], states, &mut ours);
+    let calls = (1_000_000 / time.elapsed().as_nanos().max(1000)) as usize + 1;
+    let theirs = || simple::priced(sheet, disks, &[], states, &mut theirs).answer;
+    let times = interleaved(calls, || proved::priced(sheet, disks, &[], states, &mut ours).answer, theirs);
+    let (what, other) = (format!("priced, {what}"), "simple Rust");
+    (Held { ratio: row(&what, other, times), what, other, bound: 1.3 }, times.0 / 1_000_000.0)
+}
+
+/// The line of planning at prices beside ordinary planning for the same disks.
+fn beside_planning(what: &str, sheet: &[u8], disks: &[u8], states: &States) -> Held {
+    let (mut ours, mut theirs) = (vec![1u8; 3210], vec![1u8; 3210]);
+    let ordinary = || proved::plan_disks(sheet, disks, &[], &mut theirs);
+    let times = interleaved(100, || proved::priced(sheet, disks, &[], states, &mut ours).answer, ordinary);
+    let (what, other) = (format!("priced, {what}"), "ordinary planning");
+    Held { ratio: row(&what, other, times), what, other, bound: 10.0 }
+}
+
+/// Disks that are idle at a price each.
+fn idle(prices: Vec<f64>) -> States {
+    States { kinds: vec![1; prices.len()], prices, factors: Vec::new() }
+}
+
+/// The lines of planning at prices: ratios with their bounds, and the longest time of ours in milliseconds, but for the search that is made to be long.
+fn priced() -> (Vec<Held>, f64) {
+    let (what, liberation, ones) = ("Liberation w 7, k 7, disk 0, every price 1", liberation_sheet(7, 7), idle(vec![1.0; 9]));
+    let mut held = vec![beside_planning(what, &liberation, &[0], &ones)];
+    let (wide, lost, mut next) = (wide_sheet(1), Vec::from_iter(0..16), random_numbers(2));
+    let any = idle((0..64).map(|_| (1 + next() % 100) as f64).collect());
+    let mut longest = 0f64;
+    for (what, sheet, disks, states) in [
+        (what, &liberation, &[0][..], ones),
+        ("random code, N 64, 16 lost, every price 1", &wide, &lost, idle(vec![1.0; 64])),
+        ("random code, N 64, 16 lost, prices 1 to 100", &wide, &lost, any),
+    ] {
+        let (line, time) = planning_priced(what, sheet, disks, &states);
+        held.push(line);
+        longest = longest.max(time);
+    }
+    let (counting, prices) = counting_sheet();
+    held.push(planning_priced("N 64, stopped after 1,024 swaps", &counting, &[0], &idle(prices)).0);
+    (held, longest)
+}
+
 /// The lines of rebuilding, and its ratio to simple Rust.
 fn rebuilding(sheet: &[u8], plan: &[u8], size: usize) -> f64 {
     let contents: Vec<u8> = (0..25 * size).map(|i| (i * 11 + i / 239) as u8).collect();
@@ -983,26 +1287,35 @@ fn testing(sheet: &[u8], lost: u8, size: usize) -> f64 {
 }
 
 /// The loops over bytes are fast only where the compiler makes one of its own for each number of sources. It says nothing where it doesn't, so
-/// this does: the lines at L 4,096, those of planning with the fewest reads, and whether all are within their bounds.
+/// this does: the lines at L 4,096, those of planning with the fewest reads and at prices, and whether all are within their bounds.
 fn check(sheet: &[u8], plan: &[u8]) -> bool {
-    let mut ratios = vec![
-        ("encode, L 4096".to_string(), encoding(sheet, 4096), 0.9),
-        ("rebuild, L 4096".to_string(), rebuilding(sheet, plan, 4096), 0.8),
-        ("test, disk 0 lost, L 4096".to_string(), testing(sheet, 0, 4096), 0.9),
-        ("test, disk 6 lost, L 4096".to_string(), testing(sheet, 6, 4096), 0.9),
+    let beside_simple = |what: &str, ratio: f64, bound: f64| Held { what: what.to_string(), other: "simple Rust", ratio, bound };
+    let mut held = vec![
+        beside_simple("encode, L 4096", encoding(sheet, 4096), 0.9),
+        beside_simple("rebuild, L 4096", rebuilding(sheet, plan, 4096), 0.8),
+        beside_simple("test, disk 0 lost, L 4096", testing(sheet, 0, 4096), 0.9),
+        beside_simple("test, disk 6 lost, L 4096", testing(sheet, 6, 4096), 0.9),
     ];
-    let (of_fewest, longest) = fewest();
-    ratios.extend(of_fewest.into_iter().map(|(what, ratio)| (what, ratio, 1.3)));
+    let (of_fewest, longest_fewest) = fewest();
+    held.extend(of_fewest.into_iter().map(|(what, ratio)| beside_simple(&what, ratio, 1.3)));
+    let (of_priced, longest_priced) = priced();
+    held.extend(of_priced);
+    let longest = [("fewest", longest_fewest, LONGEST_FEWEST), ("priced", longest_priced, LONGEST_PRICED)];
     let is_within = |measured: f64, bound: f64| if measured <= bound { "within" } else { "ABOVE" };
-    for (what, ratio, bound) in &ratios {
-        println!("{what}: {ratio:.2} of simple Rust, {} {bound}", is_within(*ratio, *bound));
+    for Held { what, other, ratio, bound } in &held {
+        println!("{what}: {ratio:.2} of {other}, {} {bound}", is_within(*ratio, *bound));
     }
-    println!("fewest, the longest call: {longest:.2} ms, {} {LONGEST_FEWEST}", is_within(longest, LONGEST_FEWEST));
-    ratios.iter().all(|(_, ratio, bound)| ratio <= bound) && longest <= LONGEST_FEWEST
+    for (what, time, bound) in longest {
+        println!("{what}, the longest call: {time:.2} ms, {} {bound}", is_within(time, bound));
+    }
+    held.iter().all(|held| held.ratio <= held.bound) && longest.iter().all(|(_, time, bound)| time <= bound)
 }
 
 /// So many milliseconds planning with the fewest reads may take.
 const LONGEST_FEWEST: f64 = 20.0;
+
+/// So many milliseconds planning at prices may take.
+const LONGEST_PRICED: f64 = 5.0;
 
 fn main() {
     let (sheet, plan) = (liberation_sheet(5, 5), plan_with_20_reads());
@@ -1020,6 +1333,7 @@ fn main() {
     planning("N 64, K 64, none exists", &dense_sheet(), 999);
     planning("Liberation w 7, k 7", &liberation_sheet(7, 7), 1049);
     fewest();
+    priced();
     let times = interleaved(1000, || proved::check(&sheet, 0, black_box(&plan)), || simple::check(&sheet, 0, black_box(&plan)));
     row("check, 28 steps", "simple Rust", times);
     for size in sizes {
