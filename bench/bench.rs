@@ -1,7 +1,9 @@
 //! The proved library against simple Rust doing the identical work, and against Jerasure, ISA-L and one pass in C rebuilding the same disk, in
-//! turn, in one process. Medians of 101 rounds. With `--check` only what a landing must keep.
+//! turn, in one process. Medians of 101 rounds. With `--check` only what a landing must keep; with `--reads` how many symbols plans read.
 use std::hint::black_box;
 use std::time::Instant;
+
+mod reads;
 
 /// The proved calls, by their interface for C. A refusal is its number; a read count is 1000 plus it; a pattern is 999; sound survivors are
 /// 1000, others 2000 plus the column.
@@ -10,6 +12,13 @@ mod proved {
     struct Verdict {
         number: u64,
         place: u64,
+    }
+
+    #[repr(C)]
+    struct Sheet {
+        number: u64,
+        place: u64,
+        length: u64,
     }
 
     #[repr(C)]
@@ -56,6 +65,8 @@ mod proved {
     type Floats = *const f64;
 
     extern "C" {
+        fn navorzim_single_parity(data_disks: u64, rows: u64, buffer: BytesMut, buffer_length: usize) -> Sheet;
+        fn navorzim_evenodd(p: u64, buffer: BytesMut, buffer_length: usize) -> Sheet;
         fn navorzim_encode(s: Bytes, sl: usize, size: u64, c: Bytes, cl: usize, stripe: BytesMut, stripe_length: usize) -> Verdict;
         fn navorzim_rebuild(s: Bytes, sl: usize, disk: u64, p: Bytes, pl: usize, size: u64, stripe: BytesMut, stripe_length: usize) -> Verdict;
         fn navorzim_plan(s: Bytes, sl: usize, disk: u64, buffer: BytesMut, buffer_length: usize) -> Planned;
@@ -82,6 +93,23 @@ mod proved {
     }
 
     // SAFETY, for each call: a pointer is that of a slice with the length beside it, and what is written is lent for the call alone.
+
+    pub fn single_parity(data_disks: u64, rows: u64) -> Vec<u8> {
+        written(|buffer, length| unsafe { navorzim_single_parity(data_disks, rows, buffer, length) })
+    }
+
+    pub fn evenodd(p: u64) -> Vec<u8> {
+        written(|buffer, length| unsafe { navorzim_evenodd(p, buffer, length) })
+    }
+
+    /// A family's code sheet.
+    fn written(family: impl FnOnce(BytesMut, usize) -> Sheet) -> Vec<u8> {
+        let mut buffer = vec![0; 518];
+        let sheet = family(buffer.as_mut_ptr(), buffer.len());
+        assert!(sheet.number == 0, "refused {} at {}", sheet.number, sheet.place);
+        buffer.truncate(sheet.length as usize);
+        buffer
+    }
 
     pub fn encode(sheet: &[u8], size: usize, contents: &[u8], stripe: &mut [u8]) -> u64 {
         let (c, x) = ((contents.as_ptr(), contents.len()), (stripe.as_mut_ptr(), stripe.len()));
@@ -582,16 +610,16 @@ mod simple {
         }
     }
 
-    /// The same search for a smallest set of survivors that is enough for the wanted symbols. It begins with the images of the symbols involved, spread over
-    /// the survivors, without the empty ones.
-    fn smallest(code: &Code, survivors: u64, wanted: u64) -> Search {
+    /// The same search for a smallest set of survivors that is enough for the wanted symbols, with at most so many branchings. It begins with the images of the
+    /// symbols involved, spread over the survivors, without the empty ones.
+    fn smallest(code: &Code, survivors: u64, wanted: u64, most: usize) -> Search {
         let mut images = [0; 64];
         for (s, row) in code.rows[..code.n * code.r].iter().enumerate().filter(|(s, _)| (survivors | wanted) >> s & 1 == 1) {
             for (t, image) in images[..code.k].iter_mut().enumerate() {
                 *image |= (row >> t & 1) << s;
             }
         }
-        let mut search = Search { total: code.k, wanted, best: survivors, branchings: BRANCHINGS };
+        let mut search = Search { total: code.k, wanted, best: survivors, branchings: most };
         search.spread(&mut images, survivors);
         let (mut first, mut total) = ([0; 64], 0);
         for &image in images[..code.k].iter().filter(|&&image| image != 0) {
@@ -610,7 +638,14 @@ mod simple {
     pub fn branchings(sheet: &[u8]) -> usize {
         let Ok(code) = read(sheet) else { return 0 };
         let lost = (1 << code.r) - 1;
-        BRANCHINGS - smallest(&code, lost << code.r, lost).branchings
+        BRANCHINGS - smallest(&code, lost << code.r, lost, BRANCHINGS).branchings
+    }
+
+    /// The fewest surviving symbols that are enough for a disk that has a plan, however long that takes.
+    pub fn fewest_reads(sheet: &[u8], disk: usize) -> u64 {
+        let Ok(code) = read(sheet) else { return 0 };
+        let lost = code.strips([disk].into_iter());
+        smallest(&code, code.all() & !lost, lost, usize::MAX).best.count_ones().into()
     }
 
     /// Whether a list of disks or symbols rises.
@@ -689,7 +724,7 @@ mod simple {
         if survivors.count_ones() > 16 {
             return 41;
         }
-        plan_from(&code, disks, list, wanted, smallest(&code, survivors, wanted).best, buffer)
+        plan_from(&code, disks, list, wanted, smallest(&code, survivors, wanted, BRANCHINGS).best, buffer)
     }
 
     /// An edition 3 plan for wanted symbols from known ones.
@@ -1318,6 +1353,9 @@ const LONGEST_FEWEST: f64 = 20.0;
 const LONGEST_PRICED: f64 = 5.0;
 
 fn main() {
+    if std::env::args().any(|word| word == "--reads") {
+        return reads::table();
+    }
     let (sheet, plan) = (liberation_sheet(5, 5), plan_with_20_reads());
     assert_eq!((proved::check(&sheet, 0, &plan), simple::check(&sheet, 0, &plan)), (1020, 1020));
     let sizes = [1usize, 64, 1024, 4096, 65536];

@@ -3,6 +3,7 @@
 # Debian's libjerasure-dev and libisal-dev are installed, against Jerasure and ISA-L, interleaved in one process. Prints the table of docs/PERFORMANCE.md: sh bench/run.sh
 # With --check it ends with status 1 where rebuilding takes more than 0.8 of simple Rust at L 4,096, or encoding or testing more than 0.9, where planning with
 # the fewest reads or at prices takes more than 1.3, or more than 20 ms or 5 ms, or at prices more than 10 times as long as ordinary planning: for each landing.
+# With --reads it prints how many symbols plans read, for each disk of the families.
 set -eu
 cd "$(dirname "$0")/.."
 room=$(mktemp -d)
