@@ -12,7 +12,7 @@ use Rattle.bits.specs.Lists.{symbolsIn}
 use Rattle.bits.proofs.Booleans.{and-left, and-right, and-true-if-both, or-true-if-left, or-true-if-right}
 use Rattle.bits.proofs.CountLaws.{countFrom-all, countFrom-within, length-symbolsIn}
 use Rattle.bits.proofs.ListLaws.{in-symbolsIn}
-use Rattle.codes.specs.Codes.{LinearCode, symbols}
+use Rattle.codes.specs.Codes.{LinearCode}
 use Rattle.codes.specs.Layouts.{symbolsOf, diskOf, firstSymbol}
 use Rattle.codes.specs.declared.Layout.{Layout}
 use Rattle.codes.proofs.LayoutLaws.{strip-within, height-of-positive, onDisk-above, on-disk-of}
