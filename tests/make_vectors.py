@@ -19,7 +19,8 @@ from edition2_vectors import add_edition_2_vectors
 from edition3_vectors import add_edition_3_vectors
 from plan_vectors import add_plan_vectors
 from plans import direct_plan
-from planner_vectors import Questions, add_fewest_questions, add_gone_questions, add_list_questions, add_planning_questions, add_set_questions
+from planner_vectors import Questions, add_fewest_questions, add_gone_questions, add_list_questions, add_planning_questions, add_priced_questions
+from planner_vectors import add_set_questions
 from rebuild_vectors import add_rebuild_vectors
 from records import ROOM, Vectors
 from second import Code, changed
@@ -348,6 +349,7 @@ def all_vectors() -> tuple[Vectors, Questions]:
     add_gone_questions(questions)
     add_soundness_vectors(vectors)
     add_fewest_questions(questions)
+    add_priced_questions(questions)
     return vectors, questions
 
 

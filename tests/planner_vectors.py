@@ -1,7 +1,9 @@
 """The records of planning: every family, codes of every shape that can and can't be rebuilt, lists of wanted symbols, sets of disks, every
-refusal, codes of which more and more is gone, and small arrays for the fewest reads."""
+refusal, codes of which more and more is gone, small arrays for the fewest reads, and disks at prices, away or in no state at all."""
+import math
+import struct
 from collections import Counter
-from itertools import combinations, product
+from itertools import combinations, permutations, product
 from typing import Iterable, Optional
 
 from arrays import SMALLEST, SPECIAL_CODES, below, chosen, low_rank_code, random_bytes, random_code, random_codes, random_row, shuffled
@@ -12,6 +14,9 @@ from second import SQUARE, Code, changed, evenodd, liberation, row_diagonal, row
 from second_checker import Disks, lost_places
 from second_fewest import LISTED, NOTHING, families, sets_in_range, units
 from second_planner import BUFFER, HALF, LIST_BUFFER, P8, P9, SET_BUFFER, Asked, for_disk, for_disks, most_steps
+from second_priced import FACTORS, HIGHEST_FACTOR, HIGHEST_PRICE, INFINITY, NAN, NO_FACTORS, NO_PRICES, PRICES, State, States
+from second_priced import SMALLEST as SMALLEST_PRICE
+from second_priced import any_states, bits, counting, states_of, told_bytes
 
 SHOWN_STEPS = 16
 """Plans are shown where no plan has more steps."""
@@ -57,6 +62,11 @@ class Questions:
 
     def add_fewest(self, kind: str, sheet: bytes, disks: Disks, listed: Iterable[int] = (), **more: int) -> None:
         self.add_set(f"fewest, {kind}", sheet, disks, listed, fewest=True, **more)
+
+    def add_priced(self, kind: str, sheet: bytes, disks: Disks, states: States, listed: Iterable[int] = (), **more: int) -> None:
+        """Plans are shown, whatever their length: their sum is that of what they read. A record has the first 64 states."""
+        told = told_bytes(States(*(numbers[:64] for numbers in states)))
+        self.add_set(f"prices, {kind}", sheet, disks, listed, shown=True, told=told, **more)
 
 
 # Codes that can be rebuilt
@@ -563,3 +573,121 @@ def add_fewest_questions(questions: Questions) -> None:
     add_few_survivors(questions)
     add_fewest_of_random_codes(questions)
     add_fewest_refused(questions)
+
+
+# Plans at prices
+
+EDGE_BITS = (0x7FF0_0000_0000_0000, 0x7FF0_0000_0000_0001, 0x7FF8_0000_0000_0000, 0x7FFF_FFFF_FFFF_FFFF)
+"""Infinity, and the first, the usual and the last NaN, by their bits."""
+
+
+def float_of(number: int) -> float:
+    return struct.unpack("<d", number.to_bytes(8, "little"))[0]
+
+
+def add_prices_at_limits(questions: Questions) -> None:
+    """Each price and each factor at a limit and next to it, at the first, a middle and the last disk; NaN and infinity of both signs."""
+    finite = {bits(number): number for number in (*PRICES, *NO_PRICES, math.nextafter(HIGHEST_PRICE, 0.0)) if math.isfinite(number)}
+    for number in finite.values():
+        for at, factor in ((1, None), (2, 1.5), (3, None)):
+            given: list[State] = [1.0] * 4
+            given[at] = number if factor is None else (number, factor)
+            questions.add_priced("a price at a limit", sheet_of(SQUARE), [0], states_of(given))
+    for number in filter(math.isfinite, FACTORS + NO_FACTORS):
+        for given in ([1.0, 0.3, 1.0, (0.7, number)], [(1.0, number), 1.0, 1.0, 1.0]):
+            questions.add_priced("a factor at a limit", sheet_of(SQUARE), [0], states_of(given))
+    for number in [float_of(number | sign) for number in EDGE_BITS for sign in (0, 2**63)]:
+        for given in ([1.0, number, 1.0, 1.0], [1.0, 1.0, (1.0, number), 1.0], [(number, 1.0), 1.0, 1.0, number]):
+            questions.add_priced("NaN and infinity", sheet_of(SQUARE), [0], states_of(given))
+
+
+def add_lists_of_states(questions: Questions) -> None:
+    """Lists that end too early, at each disk; entries from n on, which may be anything; kinds that there aren't; what a kind doesn't use."""
+    for count, kind in product(range(5), (0, 1, 2)):
+        questions.add_priced("lists end", sheet_of(SQUARE), [0], States([kind] * count, [1.0] * count, [2.0] * count))
+    for more in (1, 2, 59, 60):
+        for kind, number in ((255, NAN), (0, -1.0), (2, INFINITY), (1, 7.0)):
+            longer = States([1, 2, 1, 1] + [kind] * more, [1.0, 0.1, 0.2, 0.3] + [number] * more, [NAN, 3.0, 0.0, -1.0] + [number] * more)
+            questions.add_priced("entries from n on", sheet_of(SQUARE), [chosen((0, 2))], longer)
+    for kind, disk in product((3, 4, 128, 255), range(4)):
+        kinds = [1] * 4
+        kinds[disk] = kind
+        questions.add_priced("other kinds", sheet_of(SQUARE), [1], States(kinds, [1.0] * 4, [1.0] * 4))
+    for disks, height in ((64, 1), (2, 32)):
+        code = random_code(disks, height, 20)
+        for count in (disks - 1, disks, 64):
+            questions.add_priced("lists end", sheet_of(code), [disks - 1], States([1] * count, [1.0] * count, [1.0] * count))
+
+
+def add_away(questions: Questions) -> None:
+    """Each set of away disks, with asked ones among them and without, up to all; lists over the asked disks alone."""
+    for away, disks in product(product((False, True), repeat=4), ([0], [3], [0, 2])):
+        given: list[State] = [None if gone else chosen(PRICES) for gone in away]
+        questions.add_priced("away", sheet_of(SQUARE), disks, states_of(given), chosen([[]] + some_lists(SQUARE, disks)))
+    for code in (P8, P9, HALF, COPIES, NOTHING, ZEROS, row_diagonal(5), liberation(5, 4), evenodd(5)):
+        for away in (2, 3, 8):
+            questions.add_priced("away", sheet_of(code), any_set(code)[:2], any_states(code.disks, away))
+        questions.add_priced("all away", sheet_of(code), [0], states_of([None] * code.disks))
+        questions.add_priced("all asked, some away", sheet_of(code), range(code.disks), any_states(code.disks, 2))
+    for listed in ([2], [4], [0, 2], [3]):
+        questions.add_priced("an away disk's symbol listed", sheet_of(SQUARE), [0], states_of([1.0, None, 1.0, 1.0]), listed)
+
+
+def add_orders_of_sums(questions: Questions) -> None:
+    """Sums of the same charges in another order, and products in another one, which differ in the last bit; sums of tiny and of huge prices."""
+    for prices in permutations((0.1, 0.2, 0.3)):
+        questions.add_priced("order of a sum", sheet_of(single_parity(3, 1)), [3], states_of([*prices, 0.0]))
+        questions.add_priced("order of a sum", sheet_of(single_parity(3, 3)), [3], states_of([*((price, 1.1) for price in prices), 0.0]))
+    for price, factor in ((0.1, 3.0), (0.7, 1.1), (0.3, 1.3), (SMALLEST_PRICE, 1.5), (HIGHEST_PRICE, HIGHEST_FACTOR), (-0.0, 64.0)):
+        for r in (3, 5, 7):
+            questions.add_priced("order of a product", sheet_of(single_parity(2, r)), [0], states_of([0.0, (price, factor), price]))
+    for number in (5, 1023, 1024, 1025, 2047):
+        code, states = counting(number)
+        questions.add_priced("many swaps", sheet_of(code), [0], states)
+
+
+def add_priced_codes(questions: Questions) -> None:
+    """Families, with one disk lost and two; random codes, which can be rebuilt or not, with lists."""
+    codes = [single_parity(4, 4), single_parity(9, 2), single_parity(63, 1), single_parity(1, 32)]
+    codes += [liberation(w, k) for w, k in ((3, 2), (3, 3), (5, 3), (5, 5), (7, 4))]
+    codes += [family(p) for family in (row_diagonal, evenodd) for p in (3, 5, 7)]
+    for code in codes:
+        for disks in ([0], [code.disks - 1], sorted({0, code.disks // 2})):
+            listed, length = chosen([[], []] + some_lists(code, disks)), chosen((SET_BUFFER, 3211, 4096))
+            questions.add_priced("families", sheet_of(code), disks, any_states(code.disks, 40), listed, buffer_length=length)
+    for _ in range(50):
+        code = chosen([random_code, low_rank_code])(2 + below(5), 1 + below(3), 1 + below(8))
+        disks = any_set(code)
+        questions.add_priced("random codes", sheet_of(code), disks, any_states(code.disks, 10), chosen([[]] + some_lists(code, disks)))
+    for disks, height, data_symbols, lost in [(64, 1, 40, [0, 63]), (16, 4, 12, [3]), (8, 8, 16, [7]), (31, 2, 24, [0, 9]), (5, 3, 6, [1])]:
+        code = planted_code(disks, height, data_symbols, lost)
+        for away in (4, 40):
+            questions.add_priced("planted codes", sheet_of(code), lost, any_states(disks, away))
+
+
+def add_priced_refused(questions: Questions) -> None:
+    """Each refusal, and 42 with each: it comes last, at its lowest disk."""
+    square, bad = sheet_of(SQUARE), states_of([1.0, -1.0, NAN])
+    for sheet in refused_sheets()[::5]:
+        questions.add_priced("code sheet refused", sheet, [0, 0], bad)
+    for disks in ASKED_SETS[::2]:
+        questions.add_priced("asked", square, disks, states_of([1.0] * 4))
+    for listed in ([0, 0], [1, 0], [0, 2], [8], [255], [0] * 3, [0] * 300):
+        questions.add_priced("bad list", square, [0], states_of([1.0] * 4), listed)
+    for length in (0, 3081, 3209, 3210, 3211):
+        questions.add_priced("buffer at a limit", square, [0], states_of([1.0] * 4), buffer_length=length)
+    for sheet, disks, listed, length in product((square, changed(square, 13, 128)), ([0], [4], [1, 0]), ([], [2], [0, 0]), (3210, 3209)):
+        questions.add_priced("several faults", sheet, disks, bad, listed, buffer_length=length)
+    for one, other in combinations(range(4), 2):
+        given: list[State] = [1.0] * 4
+        given[one], given[other] = chosen((-1.0, (1.0, 65.0), INFINITY)), chosen((NAN, (-1.0, 0.0), 1e300))
+        questions.add_priced("two bad states", square, [one], states_of(given))
+
+
+def add_priced_questions(questions: Questions) -> None:
+    add_prices_at_limits(questions)
+    add_lists_of_states(questions)
+    add_away(questions)
+    add_orders_of_sums(questions)
+    add_priced_codes(questions)
+    add_priced_refused(questions)

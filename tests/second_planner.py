@@ -6,7 +6,8 @@ the surviving rows, and judges what was given: a plan by running it on stripes, 
 
     python3 tests/second_planner.py     runs its own test, on the worked cases of document 01 and on answers that are wrong; then it
                                         judges crates/planvectors/stdout, line by line, against the records of crates/planvectors/stdin.
-                                        Lines of the fewest reads are left to second_fewest.py
+                                        Lines of the fewest reads are left to second_fewest.py, and those of plans at prices to
+                                        second_priced.py
 """
 import sys
 from collections import Counter
@@ -190,7 +191,8 @@ def random_bytes(length: int) -> bytes:
 
 class Asked(NamedTuple):
     """A record: a code sheet, a buffer, some disks, one after the other, and perhaps a list of wanted symbols; or a set of disks, asked about
-    at once, and a list that may be empty, for planning or for the fewest reads. crates/planvectors/src/main.rt describes its bytes."""
+    at once, and a list that may be empty, for planning, for the fewest reads, or, with the bytes that tell the disks' states, for planning at
+    prices. crates/planvectors/src/main.rt describes its bytes."""
 
     sheet: bytes
     disk: int
@@ -201,6 +203,7 @@ class Asked(NamedTuple):
     listed: Optional[bytes] = None
     disks: Optional[bytes] = None
     fewest: bool = False
+    told: Optional[bytes] = None
 
     @property
     def wish(self) -> Wish:
@@ -208,14 +211,14 @@ class Asked(NamedTuple):
 
     @property
     def kind(self) -> int:
-        return 3 if self.fewest else self.wish.edition - 1
+        return 4 if self.told is not None else 3 if self.fewest else self.wish.edition - 1
 
     def record(self) -> bytes:
         numbers = bytes([self.shown, self.seed]) + self.buffer_length.to_bytes(2, "little") + bytes([self.count])
         first = self.disk if self.disks is None else len(self.disks)
         listed = self.listed or b""
         section = bytes([self.kind]) + len(listed).to_bytes(2, "little") + listed
-        body = numbers + first.to_bytes(8, "little") + section + (self.disks or b"") + self.sheet
+        body = numbers + first.to_bytes(8, "little") + section + (self.disks or b"") + (self.told or b"") + self.sheet
         return len(body).to_bytes(2, "little") + body
 
     def each(self) -> list["Asked"]:
@@ -235,6 +238,9 @@ def records_in(given: bytes) -> list[Asked]:
         listed, rest = body[16:behind] if body[13] > 0 else None, body[behind:]
         asked = Asked(rest, first, body[4], buffer_length, body[1], body[0] == 1, listed)
         of_set = asked._replace(sheet=rest[first:], disk=0, disks=rest[:first], fewest=body[13] == 3)
+        if body[13] == 4:
+            told = rest[first : first + 1 + 17 * rest[first]]
+            of_set = of_set._replace(sheet=of_set.sheet[len(told) :], told=told)
         found.append(of_set if body[13] >= 2 else asked)
     return found
 
@@ -689,20 +695,21 @@ def test_records() -> None:
     large = Asked(SQUARE_SHEET, 2**64 - 1, 1, 258, 255, True)
     asked = [large, Asked(sheet_of(P8), 0, 2), large._replace(listed=b""), large._replace(listed=bytes(300))]
     of_sets = [Asked(SQUARE_SHEET, 0, listed=listed, disks=disks) for listed in (b"", b"\1", bytes(300)) for disks in (b"", b"\0\2", bytes(300))]
-    of_sets += [one._replace(fewest=True) for one in of_sets]
+    of_sets += [one._replace(fewest=True) for one in of_sets] + [one._replace(told=told) for told in (b"\0", b"\2" + bytes(34)) for one in of_sets]
     assert records_in(b"".join(one.record() for one in asked + of_sets)) == asked + of_sets
     assert [one.disk for one in asked[1].each()] == [0, 1]
     assert all(one.each() == [one] for one in of_sets)
     assert of_sets[4].record()[6:22] == bytes([1, 2, 0, 0, 0, 0, 0, 0, 0, 2, 1, 0, 1, 0, 2, 4])
     assert of_sets[13].record()[6:22] == bytes([1, 2, 0, 0, 0, 0, 0, 0, 0, 3, 1, 0, 1, 0, 2, 4])
+    assert of_sets[31].record()[15:59] == bytes([4, 1, 0, 1, 0, 2, 2]) + bytes(34) + SQUARE_SHEET[:3]
 
 
 def judge_program() -> None:
     """What the program crates/planvectors printed of planning."""
     every, all_lines = printed()
-    let_stand(every, all_lines, lambda asked, line: None if asked.fewest else judge_line(asked, line))
-    questions = [asked for asked in every if not asked.fewest]
-    lines = [line for asked, line in zip(every, all_lines) if not asked.fewest]
+    let_stand(every, all_lines, lambda asked, line: None if asked.kind > 2 else judge_line(asked, line))
+    questions = [asked for asked in every if asked.kind <= 2]
+    lines = [line for asked, line in zip(every, all_lines) if asked.kind <= 2]
     kinds = Counter(line.split(" ")[0] for line in lines)
     shown = sum(asked.shown and line.startswith("plan") for asked, line in zip(questions, lines))
     counts = ", ".join(f"{kinds[kind]} {kind}" for kind in ("plan", "patterns", "refused"))

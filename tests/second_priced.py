@@ -5,7 +5,8 @@ whether a single swap lowers their sum is seen by how many sets hold each symbol
 that each operation is rounded once is tried with exact fractions.
 
     python3 tests/second_priced.py     runs its own test, on worked cases, on sums by fractions, on swaps by unions of sets, on arrays that
-                                       take 1,024 swaps and more, and on planners that are wrong
+                                       take 1,024 swaps and more, and on planners that are wrong; then it judges the lines of
+                                       crates/planvectors/stdout that were asked for at prices
 """
 import math
 import struct
@@ -16,12 +17,13 @@ from operator import add, gt, le, lt
 from random import Random
 from typing import Callable, Iterable, Iterator, NamedTuple, Optional, Sequence, Union
 
+import second_planner
 from arrays import below, chosen
 from plans import fill, sources_of, survivors
 from second import SQUARE, Code, Refusal, bits_of, changed, evenodd, liberation, read_code, row_diagonal, sheet_of, single_parity
 from second_checker import ADD, CLEAR, COPY, Step, check, lost_places, read_count, set_sheet, steps_of
 from second_fewest import NOTHING, SAME, Gone, any_question, patterns_of, sets_of
-from second_planner import HALF, P8, P9, SET_BUFFER, Fault, Wish, for_disks, judge_patterns, judge_plan, planning_refusal
+from second_planner import HALF, P8, P9, SET_BUFFER, Asked, Fault, Wish, for_disks, judge_patterns, judge_plan, let_stand, planning_refusal, printed
 from second_soundness import equations_of
 
 AWAY, IDLE, BUSY = 0, 1, 2
@@ -55,6 +57,18 @@ def states_of(given: Sequence[State], more: int = 0) -> States:
         prices.append(pair[0])
         factors.append(pair[1])
     return States(kinds + [255] * more, prices + [NAN] * more, factors + [NAN] * more)
+
+
+def told_bytes(states: States) -> bytes:
+    """The states of a record: the number of entries, at most 64, then kinds, prices and factors, as many of each."""
+    count = len(states.kinds)
+    assert count == len(states.prices) == len(states.factors) <= 64
+    return bytes([count, *states.kinds]) + struct.pack(f"<{2 * count}d", *states.prices, *states.factors)
+
+
+def states_in(told: bytes) -> States:
+    numbers = struct.unpack(f"<{2 * told[0]}d", told[1 + told[0] :])
+    return States(told[1 : 1 + told[0]], numbers[: told[0]], numbers[told[0] :])
 
 
 # What is refused
@@ -192,15 +206,25 @@ def judge_priced(sheet: bytes, wish: Wish, states: States, buffer_length: int, a
     return judge_plan(sheet, lost, answer.plan, answer.reads) or judge_swaps(code, lost, states, answer, known(lost))
 
 
-def judge_swaps(code: Code, lost: Wish, states: States, answer: Priced, known: Known) -> Fault:
-    """Whether swaps can have led from the start to this plan, which is accepted, and whether it is rightly called settled or stopped."""
-    sets, start = sets_made(steps_of(answer.plan)), sets_made(steps_of(known.start))
+def judge_reads(code: Code, lost: Wish, states: States, answer: Priced) -> Fault:
+    """Whether the sum is that of what an accepted plan reads, and it reads what its sets have and nothing besides."""
+    sets = sets_made(steps_of(answer.plan))
     read = {step.source for step in steps_of(answer.plan) if step.kind != CLEAR} - set(lost_places(code, lost.disks))
-    total, first = sum_of(code, states, read), sum_of(code, states, read_by(start))
+    total = sum_of(code, states, read)
     if bits(answer.sum) != bits(total):
         return f"the sum {answer.sum.hex()}, and what is read costs {total.hex()}"
     if read != read_by(sets):
         return f"symbols {sorted(read - read_by(sets))} are read, and no set has them"
+    return None
+
+
+def judge_swaps(code: Code, lost: Wish, states: States, answer: Priced, known: Known) -> Fault:
+    """Whether swaps can have led from the start to this plan, which is accepted, and whether it is rightly called settled or stopped."""
+    fault = judge_reads(code, lost, states, answer)
+    if fault:
+        return fault
+    sets, start = sets_made(steps_of(answer.plan)), sets_made(steps_of(known.start))
+    total, first = sum_of(code, states, read_by(sets)), sum_of(code, states, read_by(start))
     if first < total:
         return f"the sum {total}, above {first}, the start's"
     if first == total and sets != start:
@@ -222,6 +246,39 @@ def swaps_between(code: Code, lost: Wish, states: States, start: float, final: f
     most = (code.height + 1) ** len(present) - 1
     used = [states.prices[disk] for disk in present] + [states.factors[disk] for disk in present if states.kinds[disk] == BUSY]
     return min(most, int(start - final)) if all(number.is_integer() for number in used) else most
+
+
+# Lines
+
+
+def judge_line(asked: Asked, line: str) -> Fault:
+    """Whether a line of the vectors may stand: as one of planning for the lost disks with the away ones and the wanted symbols one by one, but for
+    42, the sum and what it is called. Lines have neither the start nor the equations, so that what needs these isn't judged: whether the start
+    is cheaper, and whether a swap would lower the sum of a plan that is called settled."""
+    states = states_in(asked.told)
+    refusal = priced_refusal(asked.sheet, asked.wish, states, asked.buffer_length)
+    if refusal:
+        expected = f"refused {refusal.number} at {refusal.place} same"
+        return None if line == expected else f"not '{expected}'"
+    code, words = read_code(asked.sheet), line.split(" ")
+    lost = with_away(code, asked.wish, states)
+    planned = Asked(asked.sheet, 0, shown=asked.shown, listed=lost.listed, disks=lost.disks, buffer_length=asked.buffer_length)
+    if words[0] == "patterns":
+        return second_planner.judge_line(planned, line)
+    if words[0] != "priced" or len(words) != 9 or words[4] not in ("settled", "stopped"):
+        return "neither a plan at prices with its bytes nor patterns"
+    fault = second_planner.judge_line(planned, " ".join(["plan", *words[1:3], *words[5:]]))
+    answer = Priced(bytes.fromhex(words[8]), int(words[2]), words[4] == "settled", struct.unpack("<d", int(words[3]).to_bytes(8, "little"))[0])
+    return fault or judge_reads(code, lost, states, answer) or judge_stopped(code, lost, states, answer)
+
+
+def judge_stopped(code: Code, lost: Wish, states: States, answer: Priced) -> Fault:
+    """A plan is stopped only if 1,024 swaps can have been made, from any start, and its sum can still be lowered. None costs more than to read all
+    survivors."""
+    most = sum_of(code, states, survivors(code, lost.disks))
+    if not answer.settled and (answer.sum == 0 or swaps_between(code, lost, states, most, answer.sum) < MOST_SWAPS):
+        return f"stopped, and there is no room for {MOST_SWAPS} swaps and another"
+    return None
 
 
 # States to ask with
@@ -822,6 +879,88 @@ def test_answers() -> None:
     assert check(sheet_of(TWICE), [0], cheapest.plan) == 1
 
 
+def test_told() -> None:
+    """Each bit of each float, a NaN's too, comes back from the bytes."""
+    for states in (states_of([]), states_of([1.0, None, (0.1, 64.0), -0.0], 60), States([0, 3, 255], NO_PRICES[-3:], NO_FACTORS[-3:])):
+        told = told_bytes(states)
+        assert len(told) == 1 + 17 * len(states.kinds) and told_bytes(states_in(told)) == told
+    assert told_bytes(States([2], [1.0], [-0.0])) == bytes([1, 2, 0, 0, 0, 0, 0, 0, 240, 63, 0, 0, 0, 0, 0, 0, 0, 128])
+
+
+def line_of(answer: Priced) -> str:
+    number, word = int.from_bytes(bits(answer.sum), "big"), "settled" if answer.settled else "stopped"
+    return f"priced {len(answer.plan)} {answer.reads} {number} {word} accepted behind-same restored {answer.plan.hex()}"
+
+
+def test_lines() -> None:
+    """Lines that may stand, and what is wrong with others. An away disk is lost in the sheet, and what is on it isn't wanted."""
+
+    def asked_at(states: States, **more: object) -> Asked:
+        given = {"sheet": SQUARE_SHEET, "buffer_length": SET_BUFFER, "shown": True, "listed": b"", "disks": b"\0", "told": told_bytes(states)}
+        return Asked(disk=0, **{**given, **more})
+
+    def right(states: States) -> Priced:
+        return planner()(SQUARE_SHEET, for_disks([0]), states, SET_BUFFER)
+
+    tenths, away, gone = states_of([1.0, 0.1, 0.2, 0.3]), states_of([1.0, 1.0, None, 1.0]), states_of([1.0, None, 1.0, 1.0])
+    for states in (ONES, tenths, away, states_of([None, 0.7, 0.1, 0.2], 60)):
+        assert judge_line(asked_at(states), line_of(right(states))) is None
+    assert judge_line(asked_at(gone), "patterns 1 15 same good") is None
+    assert judge_line(asked_at(states_of([1.0, 1.0, NAN])), "refused 42 at 2 same") is None
+    one, line = right(tenths), line_of(right(tenths))
+    words = line.split(" ")
+    wrong = [
+        (tenths, line_of(one._replace(sum=math.nextafter(one.sum, 1)))),
+        (tenths, line_of(one._replace(sum=math.nextafter(one.sum, 0)))),
+        (tenths, line.replace(words[3], str(2**64 - 1))),
+        (tenths, line_of(one._replace(settled=False))),
+        (tenths, line_of(one._replace(reads=one.reads + 1))),
+        (tenths, line.replace("settled", "setled")),
+        (tenths, line.replace(" accepted", " not-accepted")),
+        (tenths, line.replace("behind-same", "not-behind-same")),
+        (tenths, line.replace(" restored", " not-restored")),
+        (tenths, " ".join(words[:-1])),
+        (tenths, "refused 42 at 0 same"),
+        (tenths, "patterns 1 15 same good"),
+        (states_of([1.0, 0.3, 0.2, 0.1]), line),
+        (states_of([1.0, 0.1, 0.2, None]), line),
+        (away, line_of(right(ONES))),
+        (gone, "patterns 1 15 not-same good"),
+        (gone, "patterns 1 7 same good"),
+        (gone, line_of(right(ONES))),
+        (states_of([1.0, 1.0, NAN]), "refused 42 at 3 same"),
+        (states_of([1.0, 1.0, NAN]), line_of(right(ONES))),
+    ]
+    for states, said in wrong:
+        assert judge_line(asked_at(states), said) is not None, said
+    steps = steps_of(right(ONES).plan)
+    more = one_read_besides()(SQUARE, for_disks([0]), ONES, sets_made(steps))
+    unlisted, besides = set_sheet(SQUARE, [0], steps), set_sheet(SQUARE, [0], more, listed=[0, 1])
+    assert check(SQUARE_SHEET, [0], unlisted) == 3 and check(SQUARE_SHEET, [0], besides) == 4
+    assert judge_line(asked_at(ONES), line_of(right(ONES)._replace(plan=unlisted))) is not None
+    assert judge_line(asked_at(ONES), line_of(Priced(besides, 4, True, 4.0))) is not None
+    for number, called in ((1024, True), (1025, False)):
+        code, states = counting(number)
+        counted, asked = planner()(sheet_of(code), for_disks([0]), states, SET_BUFFER), asked_at(states, sheet=sheet_of(code))
+        assert counted.settled == called and judge_line(asked, line_of(counted)) is None
+        # a sum of 0 can't be stopped; whether one of 1 is settled is not to be seen in a line
+        assert (judge_line(asked, line_of(counted._replace(settled=not called))) is None) == (number == 1025)
+    assert judge_line(asked_at(tenths, buffer_length=3209), "refused 34 at 0 same") is None
+    assert judge_line(asked_at(states_of([NAN]), buffer_length=3209), "refused 42 at 0 same") is not None
+
+
+def judge_program() -> None:
+    """What the program crates/planvectors printed of plans at prices."""
+    questions, every = printed()
+    let_stand(questions, every, lambda asked, line: None if asked.told is None else judge_line(asked, line))
+    lines = [line.split(" ") for asked, line in zip(questions, every) if asked.told is not None]
+    kinds = Counter(words[0] for words in lines)
+    counts = ", ".join(f"{kinds[kind]} {kind}" for kind in ("priced", "patterns", "refused"))
+    stopped, sums = sum(words[4:5] == ["stopped"] for words in lines), len({words[3] for words in lines if words[0] == "priced"})
+    refused = sum(words[:2] == ["refused", "42"] for words in lines)
+    print(f"plans at prices, as printed by crates/planvectors: {counts}, 42 {refused} times, {sums} different sums, {stopped} stopped: ok")
+
+
 if __name__ == "__main__":
     test_sums()
     test_refusals()
@@ -829,5 +968,8 @@ if __name__ == "__main__":
     test_sets()
     test_counting()
     test_answers()
+    test_told()
+    test_lines()
     test_planners()
     print(f"second program's prices: {len(cases())} questions, {len(WRONG)} wrong planners noticed: ok")
+    judge_program()

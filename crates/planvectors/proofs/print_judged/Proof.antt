@@ -3,18 +3,6 @@ use borrow.Author.Needs.{needs}
 use Rattle.planvectors.proofs.print_judged.Statement.{statement}
 use Rattle.planvectors.proofs.print_judged.Tie as tie
 
-slice-aggregate-print : tie.Need-slice-aggregate-print
-slice-aggregate-print c = search needs
-
-print-requires : tie.Need-print-requires
-print-requires c κs = tt
-
-print-number-requires : tie.Need-print-number-requires
-print-number-requires c κs = tt
-
-print-number-requires-2 : tie.Need-print-number-requires-2
-print-number-requires-2 c κs = tt
-
 slice-aggregate-print-word : tie.Need-slice-aggregate-print-word
 slice-aggregate-print-word c = search needs
 
@@ -40,10 +28,6 @@ pub print-judged-spec : {M : Type 1} → statement M
 print-judged-spec =
     tie.close
     (tie.spec
-    slice-aggregate-print
-    print-requires
-    print-number-requires
-    print-number-requires-2
     slice-aggregate-print-word
     print-word-requires
     slice-aggregate-print-word-2
