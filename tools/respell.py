@@ -2,7 +2,7 @@
 """Brings the repository's own words to snake case: definitions, lemmas, fields and locals of specs/ and proofs/, where the clauses,
 comments and must-fail edits cite them too. Types and modules stay in camel case; `getD` is `get_or`, as in today's library.
 
-usage: python3 tools/respell.py            at the top of the repository, once, right after port.py
+usage: python3 tools/respell.py            at the top of the repository, right after port.py (a second run changes nothing)
 
 Names of the library and of what Rattle makes keep their spelling: they are read from the library's own files. Functions of src/, exported
 names, strings, inputs and outputs are not touched: in a .rt file only words that hold a dash or a capital after a small letter are turned,
@@ -53,7 +53,7 @@ def ours():
                 yield os.path.join(folder, f)
 
 
-DECL = re.compile(r"^(?:(?:unfoldable|abbrev|pub|data|record|opaque|irreducible)\s+)*([^\s:(){}]+)\s*:", re.UNICODE)
+DECL = re.compile(r"^\s*(?:(?:unfoldable|abbrev|pub|data|record|opaque|irreducible)\s+)*([^\s:(){}]+)\s*:", re.UNICODE)
 
 
 def declared():
@@ -113,7 +113,7 @@ RUST = re.compile(r"//")
 def main(argv):
     if "--dry" not in argv:
         keep_apart()
-    library, own = library_words(), declared()
+    library, own = library_words(), declared() - {"append-nil", "or-false"}  # locals of ours; the library's where they are imported
     table, both = {}, set()
     seen = collections.defaultdict(set)
     plain = collections.defaultdict(set)

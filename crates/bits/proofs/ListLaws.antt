@@ -36,11 +36,11 @@ get_or_tabulate_behind (suc size) entry (suc i) h = get_or_tabulate_behind size 
 
 module _ (set : ℕ → Bool) where
   -- Each number of the set is among its symbols
-  pub in-symbolsIn : (start count t : ℕ) → start ≤ t → t < start + count → set t ≡ true → Memᴰ t (symbols_in set start count)
+  pub in_symbols_in : (start count t : ℕ) → start ≤ t → t < start + count → set t ≡ true → Memᴰ t (symbols_in set start count)
   unfolding symbols_in
-  in-symbolsIn start zero t a b in-set = absurd (omega arith)
-  in-symbolsIn start (suc count) t a b in-set =
-      by_side (λ h. in-symbolsIn (suc start) count t h (omega arith) in-set) (dec_lt start t) (set start) refl
+  in_symbols_in start zero t a b in-set = absurd (omega arith)
+  in_symbols_in start (suc count) t a b in-set =
+      by_side (λ h. in_symbols_in (suc start) count t h (omega arith) in-set) (dec_lt start t) (set start) refl
     where
       by_side : (start < t → Memᴰ t (symbols_in set (suc start) count)) → Dec (start < t) → (c : Bool) → set start ≡ c
           → Memᴰ t (cond c (start ∷ symbols_in set (suc start) count) (symbols_in set (suc start) count))

@@ -34,19 +34,19 @@ module _ (list : List ℕ) where
   take_padded = take-append_seam list (replicate (set_width - length list) 0)
 
   module _ (fits : length list ≤ set_width) where
-    pub length-padded : length (padded list) ≡ set_width
+    pub length_padded : length (padded list) ≡ set_width
     unfolding padded
-    length-padded = omega (arith, length-append list (replicate (set_width - length list) 0), length-replicate {A = ℕ} (set_width - length list) 0)
+    length_padded = omega (arith, length-append list (replicate (set_width - length list) 0), length-replicate {A = ℕ} (set_width - length list) 0)
 
     -- An array of empty sets has room for it
     room : length (padded list) ≤ length (replicate {A = ℕ} set_width 0)
-    room = omega (arith, length-padded, length-replicate {A = ℕ} set_width 0)
+    room = omega (arith, length_padded, length-replicate {A = ℕ} set_width 0)
 
     module _ {now : List ℕ} (i : ℕ) (so_far : now ≡ stored_to list i) (within : i < length list) where
       -- One more stored
       pub stored_more : {entry : ℕ} → entry ≡ get_or list i 0 → set now i entry ≡ stored_to list (i + 1)
       stored_more {entry} e =
-          overwritten_more (replicate set_width 0) (padded list) room now i entry (omega (arith, length-padded)) so_far
+          overwritten_more (replicate set_width 0) (padded list) room now i entry (omega (arith, length_padded)) so_far
           (e ∙ sym (get_or_padded i))
 
       -- Of sets that a test chooses, and empty ones for the others, only those that it chooses need be stored
@@ -56,11 +56,11 @@ module _ (list : List ℕ) where
 
         pub stored_passed : test ≡ false → now ≡ stored_to list (i + 1)
         stored_passed not_Chosen =
-            overwritten_kept (replicate set_width 0) (padded list) room now i (omega (arith, length-padded)) so_far
+            overwritten_kept (replicate set_width 0) (padded list) room now i (omega (arith, length_padded)) so_far
             (get_or_padded i ∙ chosen ∙ ap (λ (c : Bool). cond c value 0) not_Chosen ∙ sym (get_or_zeros_behind [] set_width i))
 
     -- All stored
     pub stored_all : {now : List ℕ} (i : ℕ) → now ≡ stored_to list i → length list ≤ i → now ≡ padded list
     stored_all {now} i so_far all =
-        overwritten_enough (replicate set_width 0) (padded list) now i (sym length-padded) so_far
+        overwritten_enough (replicate set_width 0) (padded list) now i (sym length_padded) so_far
         (λ j h. get_or_padded j ∙ get_or-eq_default list 0 {n = j} (omega arith) ∙ sym (get_or_zeros_behind [] set_width j))

@@ -165,7 +165,7 @@ pub answers_count : (code_sheet : List ℕ) → WithinLimits (reading code_sheet
     → ReadsJust (read_count (reading code_sheet).code asked plan) given
 answers_count code_sheet within asked plan accepted none_fewer before after (Gives (APlan plan_length reads)) fine promised =
     let good = (promised.as_planning fine).demand3 in
-    let count-is : read_count (reading code_sheet).code asked (plan_in (take plan_length after)) ≡ reads = good.deserved.plan_deserves.true_count in
+    let count_is : read_count (reading code_sheet).code asked (plan_in (take plan_length after)) ≡ reads = good.deserved.plan_deserves.true_count in
     omega (arith, promised.fewest plan accepted, none_fewer (plan_in (take plan_length after)) (given_would_be code_sheet within asked plan_length reads after good))
 answers_count code_sheet within asked plan accepted none_fewer before after (Gives (APatterns patterns)) fine promised =
     (promised.as_planning fine).demand3.0 plan accepted

@@ -48,7 +48,7 @@ module _ (code : LinearCode) (within : WithinLimits code) where
       at s (yes l) =
           get_or_rows_of (row_in (code_sheet code)) (symbols code) s l
           ∙ row_in_code_sheet code s (omega arith) l
-          (omega (arith, within.rows-below s, pow_mono {i = code.data_symbols} {j = 64} within.data_to))
+          (omega (arith, within.rows_below s, pow_mono {i = code.data_symbols} {j = 64} within.data_to))
       at s (no l) =
           get_or_rows_of_behind (row_in (code_sheet code)) (symbols code) s (omega arith) ∙ sym (within.rows_behind s (omega arith))
 
@@ -66,7 +66,7 @@ module _ (code : LinearCode) (within : WithinLimits code) where
   first_stray_code_sheet =
       ap (λ (c : LinearCode). first_stray c.rows (symbols code) code.data_symbols) code_in_code_sheet
       ∙ first_from_none (stray_at code.rows code.data_symbols) (symbols code * 64) 0
-      (λ place from to. stray_at_none code.rows code.data_symbols place within.rows-below)
+      (λ place from to. stray_at_none code.rows code.data_symbols place within.rows_below)
       ∙ zero-add (symbols code * 64)
 
   -- Each test of the order fails, from 1 to 6

@@ -208,7 +208,7 @@ code_within_limits sheet bytes e = subst WithinLimits (sym (reading_code sheet e
           data_from = head.data_from;
           data_to = head.data_to;
           rows_held = length_rows_of (row_in sheet) count (omega (arith, head));
-          rows-below = rows_of_below (row_in sheet) count (get_or sheet 4 0) row_below;
+          rows_below = rows_of_below (row_in sheet) count (get_or sheet 4 0) row_below;
           rows_behind = λ s h. get_or_rows_of_behind (row_in sheet) count s (omega (arith, head.symbols_are));
         }
 

@@ -9,7 +9,7 @@ use lib.Pow.{pow_pos}
 use Rattle.bits.specs.Lists.{tabulate}
 use Rattle.bits.specs.Numerals.{set_width}
 use Rattle.bits.proofs.ListLaws.{length_tabulate, get_d_tabulate, get_or_tabulate_behind}
-use Rattle.bits.proofs.PaddedLaws.{get_or_padded, length-padded, stored_to, stored_more, stored_all}
+use Rattle.bits.proofs.PaddedLaws.{get_or_padded, length_padded, stored_to, stored_more, stored_all}
 use Rattle.codes.specs.Codes.{rows_of}
 
 module _ (row : ℕ → ℕ) (count : ℕ) where
@@ -37,7 +37,7 @@ module _ (row : ℕ → ℕ) (count : ℕ) where
 
     pub length_rows_of : length (rows_of count row) ≡ set_width
     unfolding rows_of
-    length_rows_of = length-padded (tabulate count row) tabulated_fit
+    length_rows_of = length_padded (tabulate count row) tabulated_fit
 
     -- One more row stored
     pub rows_more : {rows : List ℕ} (s : ℕ) → rows ≡ stored_to (tabulate count row) s → s < count → {next : ℕ} → next ≡ row s

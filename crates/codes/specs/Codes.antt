@@ -42,7 +42,7 @@ pub record WithinLimits (code : LinearCode) : Type 0 where
   pub data_from : 1 ≤ code.data_symbols
   pub data_to : code.data_symbols ≤ 64
   pub rows_held : length code.rows ≡ set_width
-  pub rows-below : (s : ℕ) → get_or code.rows s 0 < 2 ^ code.data_symbols
+  pub rows_below : (s : ℕ) → get_or code.rows s 0 < 2 ^ code.data_symbols
   pub rows_behind : (s : ℕ) → symbols code ≤ s → get_or code.rows s 0 ≡ 0
 
 -- An array within the limits, whose symbols a set can hold

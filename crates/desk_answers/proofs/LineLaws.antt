@@ -95,7 +95,7 @@ copied_as text piece out held e f = (
   e ∙ ap (λ (l : List ℕ). written_length l out) held.holds,
   (
     f ∙ ap (λ (l : List ℕ). written_over l out) held.holds,
-    omega (arith, held.len-to, length_text_of text held.whole held.len-to, ap length held.holds),
+    omega (arith, held.len_to, length_text_of text held.whole held.len_to, ap length held.holds),
   ),
 )
 

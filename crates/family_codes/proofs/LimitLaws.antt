@@ -113,6 +113,6 @@ module _ (family : Family) (h : listed family ≡ true) where
         data_from = data_symbols_from family h;
         data_to = data_symbols_to family h;
         rows_held = length_rows_of (family_row family) count (omega (arith, symbols_to family h));
-        rows-below = rows_of_below (family_row family) count (data_symbols family) (λ s l. family_row_below s);
+        rows_below = rows_of_below (family_row family) count (data_symbols family) (λ s l. family_row_below s);
         rows_behind = get_or_rows_of_behind (family_row family) count;
       }

@@ -110,7 +110,7 @@ needed_more {wanted} {allowed} {used} {found} {image} {taken} {other} meets so_f
             arith,
             so_far.counted,
             meets.met bad,
-            count_from_apart (λ s. other s && has used s) (λ s. other s && has (bit_and image allowed) s) (λ s. other s && has (bit_or used (bit_and image allowed)) s) old_part new-part apart 0 set_width,
+            count_from_apart (λ s. other s && has used s) (λ s. other s && has (bit_and image allowed) s) (λ s. other s && has (bit_or used (bit_and image allowed)) s) old_part new_part apart 0 set_width,
           );
       untaken =
           λ s in_taken.
@@ -124,8 +124,8 @@ needed_more {wanted} {allowed} {used} {found} {image} {taken} {other} meets so_f
         and_true_if_both (other s) (has (bit_or used (bit_and image allowed)) s) (and_left (other s) (has used s) h)
         (has_union used (bit_and image allowed) s ∙ or_true_if_left (has used s) (has (bit_and image allowed) s) (and_right (other s) (has used s) h))
 
-    new-part : (s : ℕ) → (other s && has (bit_and image allowed) s) ≡ true → (other s && has (bit_or used (bit_and image allowed)) s) ≡ true
-    new-part s h =
+    new_part : (s : ℕ) → (other s && has (bit_and image allowed) s) ≡ true → (other s && has (bit_or used (bit_and image allowed)) s) ≡ true
+    new_part s h =
         and_true_if_both (other s) (has (bit_or used (bit_and image allowed)) s) (and_left (other s) (has (bit_and image allowed) s) h)
         (has_union used (bit_and image allowed) s ∙ or_true_if_right (has used s) (has (bit_and image allowed) s) (and_right (other s) (has (bit_and image allowed) s) h))
 

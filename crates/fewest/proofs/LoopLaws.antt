@@ -173,14 +173,14 @@ image_reads (row ∷ rows) image pattern shows v =
 -- The columns are the images of the unit patterns, and where they all overlap a sum evenly, it is 0
 pub columns_images : (rows : List ℕ) (width : ℕ) (images : List ℕ) → Below width rows
     → ((i : ℕ) → i < width → (s : ℕ) → has (get_or images i 0) s ≡ has (get_or rows s 0) i) → Images rows (has 0) width images
-columns_images rows width images rows-below columns =
+columns_images rows width images rows_below columns =
     record {
       shown = λ i h. of_unit i h;
       avoid = λ i h s in-none. absurd (true≢false (sym in-none ∙ has_empty s));
       decide =
           λ v all_even pattern even.
           ap (overlap pattern)
-          (zero_if_units_even width (select rows v) (select_below width rows v rows-below)
+          (zero_if_units_even width (select rows v) (select_below width rows v rows_below)
           (λ j h. image_reads rows (get_or images j 0) (2 ^ j) (of_unit j h).shows v ∙ all_even j h))
           ∙ overlap_zero_right pattern;
     }

@@ -164,7 +164,7 @@ module _ (code : LinearCode) (asked : Asked) {room : ℕ} (workable : Workable c
 pub fewest_for : (code : LinearCode) (asked : Asked) (n known wanted branchings : ℕ) {chosen : ℕ → Bool} → n ≡ symbols code
     → ((s : ℕ) → has known s ≡ survives code.layout asked.disks s) → ((s : ℕ) → has wanted s ≡ asked_symbols code asked s)
     → Fewest (take n code.rows) (has known) (has wanted) branchings chosen → Fewest (matrix code) (survives code.layout asked.disks) (asked_symbols code asked) branchings chosen
-fewest_for code asked n known wanted branchings {chosen} count-is known_are wanted_are fewest =
-    subst (λ (m : ℕ). Fewest (take m code.rows) (survives code.layout asked.disks) (asked_symbols code asked) branchings chosen) count-is
+fewest_for code asked n known wanted branchings {chosen} count_is known_are wanted_are fewest =
+    subst (λ (m : ℕ). Fewest (take m code.rows) (survives code.layout asked.disks) (asked_symbols code asked) branchings chosen) count_is
     (subst (λ (set : ℕ → Bool). Fewest (take n code.rows) set (asked_symbols code asked) branchings chosen) (fun_ext known_are)
     (subst (λ (set : ℕ → Bool). Fewest (take n code.rows) (has known) set branchings chosen) (fun_ext wanted_are) fewest))

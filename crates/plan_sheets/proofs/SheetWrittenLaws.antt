@@ -147,7 +147,7 @@ module _ (layout : Layout) (wanted : ℕ → Bool) (subsets : List ℕ) {symbols
   module _ {number sources : ℕ} (told : Tells symbols (subset_plan symbols wanted subsets) number sources) where
     -- The number of steps told is that of the plan
     pub count_told : number ≡ length (subset_plan (symbols_of layout) wanted subsets)
-    count_told = told.count-is ∙ ap (λ (n : ℕ). length (subset_plan n wanted subsets)) symbols_is
+    count_told = told.count_is ∙ ap (λ (n : ℕ). length (subset_plan n wanted subsets)) symbols_is
 
     -- and the count of the sources that of the symbols read
     pub reads_told : {reads : ℕ} → reads ≡ count sources → reads ≡ source_count (symbols_of layout) (subset_plan (symbols_of layout) wanted subsets)

@@ -186,17 +186,17 @@ module _ {t symbols subset : ℕ} {lent : List ℕ} {start : ℕ} {buffer : List
     abbrev later : List Step
     later = fill_rest false t (source + 1) (symbols - (source + 1)) subset
 
-    step-next : Remaining lent start steps buffer next ((step ∷ []) ++ later)
-    step-next = remain_as (fill_rest_has t symbols subset first source l q ∙ ap (λ (p : Step). p ∷ later) (sym e))
+    step_next : Remaining lent start steps buffer next ((step ∷ []) ++ later)
+    step_next = remain_as (fill_rest_has t symbols subset first source l q ∙ ap (λ (p : Step). p ∷ later) (sym e))
 
     pub target_step_fits : StepsFit next (step ∷ []) (length buffer)
-    target_step_fits = next_fits (step ∷ []) later step-next
+    target_step_fits = next_fits (step ∷ []) later step_next
 
     pub target_step : {buffer' : List ℕ} {first' : Bool} {next' : ℕ} → buffer' ≡ with_steps buffer next (step ∷ []) → first' ≡ false → next' ≡ next + 1
         → TargetRemaining t symbols subset lent start buffer' first' next' (source + 1)
     target_step {buffer'} {first'} {next'} written filled counted =
         subst (λ (c : Bool). TargetRemaining t symbols subset lent start buffer' c next' (source + 1)) (sym filled)
-        (record { steps_remain = remaining_next (step ∷ []) later step-next written counted })
+        (record { steps_remain = remaining_next (step ∷ []) later step_next written counted })
 
   -- Any other place has no step
   pub target_skip : source < symbols → has subset source ≡ false → TargetRemaining t symbols subset lent start buffer first next (source + 1)
@@ -364,7 +364,7 @@ module _ {subsets : List ℕ} {symbols : ℕ} (wanted : ℕ → Bool) {lent buff
     pub plan_told : Tells symbols plan number sources
     plan_told =
         record {
-          count-is = plan_written.0;
+          count_is = plan_written.0;
           sources_below = reached.sources_remain.below;
           sources_are = sources_end (rest_as (plan_from_end subsets symbols wanted target h)).1;
         }

@@ -136,7 +136,7 @@ pub record StepsWritable (subsets : List ℕ) (symbols : ℕ) (wanted : ℕ → 
 
 -- The steps' number and the symbols that they name as a source, as they are answered
 pub record Tells (symbols : ℕ) (plan : List Step) (count sources : ℕ) : Type 0 where
-  pub count-is : count ≡ length plan
+  pub count_is : count ≡ length plan
   pub sources_below : sources < 2 ^ symbols
   pub sources_are : (s : ℕ) → has sources s ≡ read_by_any s plan
 

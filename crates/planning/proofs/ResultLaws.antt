@@ -151,7 +151,7 @@ module _ (code : LinearCode) (asked : Asked) {room : ℕ} (workable : Workable c
 
   module _ {n known wanted : ℕ} {surviving found left : List ℕ} (given : EliminatedFor code asked n known wanted surviving found left) where
     rows_are : rows_given code n known ≡ known_rows code (has known)
-    rows_are = ap (λ (m : ℕ). survivors (has known) (take m code.rows)) given.chosen.count-is
+    rows_are = ap (λ (m : ℕ). survivors (has known) (take m code.rows)) given.chosen.count_is
 
     -- Behind the last pattern zeros are left
     pub left_zero_behind : ZeroBehind code.data_symbols left
@@ -165,14 +165,14 @@ module _ (code : LinearCode) (asked : Asked) {room : ℕ} (workable : Workable c
       is_found =
           pattern_is
           ∙ ap (λ (l : List ℕ). odd_pattern l (take n code.rows) (symbols_in (has wanted) 0 n)) (given.left_are ∙ ap (remaining (unit_patterns code.data_symbols)) rows_are)
-          ∙ ap₂ (λ (set : ℕ → Bool) (m : ℕ). odd_pattern (patterns_left_by code (has known)) (take m code.rows) (symbols_in set 0 m)) (fun_ext given.chosen.wanted_are) given.chosen.count-is
+          ∙ ap₂ (λ (set : ℕ → Bool) (m : ℕ). odd_pattern (patterns_left_by code (has known)) (take m code.rows) (symbols_in set 0 m)) (fun_ext given.chosen.wanted_are) given.chosen.count_is
 
       -- Patterns answered tell what is gone
       pub worked_patterns : eqb pattern 0 ≡ false → {count : ℕ} {sets : List ℕ}
           → count ≡ length (lost_patterns left (survivors (has wanted) (take n code.rows)))
           → sets ≡ padded (lost_patterns left (survivors (has wanted) (take n code.rows)))
           → {answer : Answer Found} → answer ≡ Gives (APatterns (take count sets)) → (before : List ℕ) → WorkedFrom code asked (has known) before before answer
-      worked_patterns some {count} {sets} count-is sets_are answer_is before =
+      worked_patterns some {count} {sets} count_is sets_are answer_is before =
           subst (WorkedFrom code asked (has known) before before) (sym answer_is) (
             subst (PatternsFrom code asked (has known)) (sym are_gone)
                 (patterns_from code asked workable (has known) given.chosen.known_survive (λ none. eqb-false pattern 0 some (is_found ∙ none))),
@@ -181,10 +181,10 @@ module _ (code : LinearCode) (asked : Asked) {room : ℕ} (workable : Workable c
         where
           are_gone : take count sets ≡ patterns_gone_by code asked (has known)
           are_gone =
-              ap₂ (λ (m : ℕ) (l : List ℕ). take m l) count-is sets_are
+              ap₂ (λ (m : ℕ) (l : List ℕ). take m l) count_is sets_are
               ∙ take_padded (lost_patterns left (survivors (has wanted) (take n code.rows)))
               ∙ ap (λ (l : List ℕ). lost_patterns l (survivors (has wanted) (take n code.rows))) (given.left_are ∙ ap (remaining (unit_patterns code.data_symbols)) rows_are)
-              ∙ ap₂ (λ (set : ℕ → Bool) (m : ℕ). lost_patterns (patterns_left_by code (has known)) (survivors set (take m code.rows))) (fun_ext given.chosen.wanted_are) given.chosen.count-is
+              ∙ ap₂ (λ (set : ℕ → Bool) (m : ℕ). lost_patterns (patterns_left_by code (has known)) (survivors set (take m code.rows))) (fun_ext given.chosen.wanted_are) given.chosen.count_is
 
       module _ (none : eqb pattern 0 ≡ true) {subsets : List ℕ}
           (subsets_are : subsets ≡ padded (wanted_subsets (take n found) (take n surviving) (take n code.rows) n (has wanted))) where
@@ -199,7 +199,7 @@ module _ (code : LinearCode) (asked : Asked) {room : ℕ} (workable : Workable c
             ∙ ap₂ (λ (a b : List ℕ). padded (wanted_subsets a b (take n code.rows) n (has wanted)))
             (given.found_are ∙ ap (pivots (unit_patterns code.data_symbols)) rows_are) (given.surviving_are ∙ rows_are)
             ∙ ap₂ (λ (set : ℕ → Bool) (m : ℕ). padded (wanted_subsets (pivots_from code (has known)) (known_rows code (has known)) (take m code.rows) m set))
-            (fun_ext given.chosen.wanted_are) given.chosen.count-is)
+            (fun_ext given.chosen.wanted_are) given.chosen.count_is)
             ∙ get_or_padded as_solved t
 
         -- The steps from the subsets are elimination's

@@ -39,8 +39,8 @@ module _ (layout : Layout) (some : 1 ≤ layout.height) (disk : ℕ) (disk_below
   unfolding listed
   lost_on_disk s = ap (λ (c : Bool). ltb s (symbols_of layout) && c) (or-false _ ∙ sym (on_disk_of layout some disk s))
 
-  not-before : (s : ℕ) → s < first_symbol layout disk → lost layout (disk ∷ []) s ≡ false
-  not-before s h =
+  not_before : (s : ℕ) → s < first_symbol layout disk → lost layout (disk ∷ []) s ≡ false
+  not_before s h =
       let in_array = lt-ltb s (symbols_of layout) (omega (arith, strip_within layout disk disk_below)) in
       lost_on_disk s ∙ ap₂ (λ (a b : Bool). a && b) in_array (on_disk_before layout disk s h)
 
@@ -63,7 +63,7 @@ module _ (layout : Layout) (some : 1 ≤ layout.height) (disk : ℕ) (disk_below
       let behind = symbols_of layout - (first + height) in
       let whole : symbols_of layout ≡ first + (height + behind) = omega (arith, strip_within layout disk disk_below) in
       let from_zero : 0 + first ≡ first = omega arith in
-      let before_count = count_from_none gone 0 first (λ s a b. not-before s (omega arith)) in
+      let before_count = count_from_none gone 0 first (λ s a b. not_before s (omega arith)) in
       let within_count = count_from_all gone first height (λ s a b. lost_within s a b) in
       let behind_count = count_from_none gone (first + height) behind (λ s a b. not_behind s a (omega arith)) in
       let split = count_from_add gone 0 first (height + behind) in

@@ -340,7 +340,7 @@ module _ (code : LinearCode) (within : WithinLimits code) where
   matrix_below s = by_side (dec_lt s (symbols code))
     where
       by_side : Dec (s < symbols code) → get_or (matrix code) s 0 < 2 ^ code.data_symbols
-      by_side (yes h) = subst (λ (row : ℕ). row < 2 ^ code.data_symbols) (sym (get_or-take (symbols code) code.rows s 0 h)) (within.rows-below s)
+      by_side (yes h) = subst (λ (row : ℕ). row < 2 ^ code.data_symbols) (sym (get_or-take (symbols code) code.rows s 0 h)) (within.rows_below s)
       by_side (no h) =
           subst (λ (row : ℕ). row < 2 ^ code.data_symbols) (sym (get_or-eq_default (matrix code) 0 (omega (arith, length_matrix)))) (pow_pos code.data_symbols)
 

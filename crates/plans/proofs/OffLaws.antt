@@ -162,8 +162,8 @@ module _ (code : LinearCode) (within : WithinLimits code) (disks : List ℕ) (pl
       own : ℕ → ℕ
       own t = get_or (matrix code) t 0
 
-      made-is : (t : ℕ) → wanted t ≡ true → made t ≡ get_or (run steps code.rows) t 0
-      made-is t is_wanted =
+      made_is : (t : ℕ) → wanted t ≡ true → made t ≡ get_or (run steps code.rows) t 0
+      made_is t is_wanted =
           run_on_symbols code.rows (symbols code) alive wanted (origin_of code.layout disks plan.head.edition) sets plan.steps plan.head.reads ends.uses_only_known t (sets.wanted_below t is_wanted)
 
       own_is : (t : ℕ) → wanted t ≡ true → own t ≡ get_or code.rows t 0
@@ -180,7 +180,7 @@ module _ (code : LinearCode) (within : WithinLimits code) (disks : List ℕ) (pl
       own_below = matrix_below code within s
 
       apart : made s ≡ own s → ⊥
-      apart same = ends.wrong (sym (made-is s ends.is_wanted) ∙ same ∙ own_is s ends.is_wanted)
+      apart same = ends.wrong (sym (made_is s ends.is_wanted) ∙ same ∙ own_is s ends.is_wanted)
 
       -- The data symbol in which they differ first
       off : ℕ
@@ -191,7 +191,7 @@ module _ (code : LinearCode) (within : WithinLimits code) (disks : List ℕ) (pl
 
       -- The place in its parts
       place_is : place ≡ (s - origin_of code.layout disks plan.head.edition) * places_per_row + off
-      place_is = ends.place_is ∙ ap (λ (d : ℕ). (s - origin_of code.layout disks plan.head.edition) * places_per_row + d) (sym (ap₂ first_difference (made-is s ends.is_wanted) (own_is s ends.is_wanted)))
+      place_is = ends.place_is ∙ ap (λ (d : ℕ). (s - origin_of code.layout disks plan.head.edition) * places_per_row + d) (sym (ap₂ first_difference (made_is s ends.is_wanted) (own_is s ends.is_wanted)))
 
       data_symbol_is : off ≡ place % places_per_row
       data_symbol_is = omega (arith, place_is, off_below, within.data_to)
@@ -211,7 +211,7 @@ module _ (code : LinearCode) (within : WithinLimits code) (disks : List ℕ) (pl
             right =
                 λ t both.
                 let is_wanted = and_left (wanted t) (ltb t s) both in
-                made-is t is_wanted ∙ ends.earlier t (ltb-true t s (and_right (wanted t) (ltb t s) both)) is_wanted ∙ sym (own_is t is_wanted);
+                made_is t is_wanted ∙ ends.earlier t (ltb-true t s (and_right (wanted t) (ltb t s) both)) is_wanted ∙ sym (own_is t is_wanted);
           }
 
       whole : {L : ℕ} {stripe x : List ℕ} → SurvivorsHold code disks L stripe x → length x ≡ length (matrix code) * L

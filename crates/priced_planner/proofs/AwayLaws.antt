@@ -11,7 +11,7 @@ use lib.ListN.{length, get_or}
 use Rattle.bits.specs.Lists.{symbols_in}
 use Rattle.bits.proofs.Booleans.{and_left, and_right, and_true_if_both, or_true_if_left, or_true_if_right}
 use Rattle.bits.proofs.CountLaws.{count_from_all, count_from_within, length_symbols_in}
-use Rattle.bits.proofs.ListLaws.{in-symbolsIn}
+use Rattle.bits.proofs.ListLaws.{in_symbols_in}
 use Rattle.codes.specs.Codes.{LinearCode}
 use Rattle.codes.specs.Layouts.{symbols_of, disk_of, first_symbol}
 use Rattle.codes.specs.declared.Layout.{Layout}
@@ -123,7 +123,7 @@ module _ (code : LinearCode) (disks list : List ℕ) (states : List DiskState) {
         disks_good =
             good_symbols (is_lost disks states layout.disks) (λ d. ltb d layout.disks) layout.disks 1 layout.disks
             (some_if_member _ first
-            (in-symbolsIn (is_lost disks states layout.disks) 0 layout.disks first (omega arith) (omega (arith, asked_below first first_listed))
+            (in_symbols_in (is_lost disks states layout.disks) 0 layout.disks first (omega arith) (omega (arith, asked_below first first_listed))
             (or_true_if_left (listed disks first) (ltb first layout.disks && is_away (state_of states first)) first_listed)))
             (few_symbols (is_lost disks states layout.disks) layout.disks) (λ d below h. lt-ltb d layout.disks below);
         edition_fits = Third refl;
@@ -158,7 +158,7 @@ module _ (code : LinearCode) (disks list : List ℕ) (states : List DiskState) {
       among : (s : ℕ) → wanted_of layout disks list s ≡ true → 1 ≤ length (wanted_list layout disks list)
       among s h =
           some_if_member (wanted_list layout disks list) s
-          (in-symbolsIn (wanted_of layout disks list) 0 (symbols_of layout) s (omega arith) (omega (arith, lost_below layout disks s (wanted_lost s h))) h)
+          (in_symbols_in (wanted_of layout disks list) 0 (symbols_of layout) s (omega arith) (omega (arith, lost_below layout disks s (wanted_lost s h))) h)
 
       by_list : (none : Bool) → eqb (length list) 0 ≡ none → 1 ≤ length (wanted_list layout disks list)
       by_list true q =
@@ -166,11 +166,11 @@ module _ (code : LinearCode) (disks list : List ℕ) (states : List DiskState) {
           (ap (λ (c : Bool). cond c (lost layout disks (first_symbol layout first)) (listed list (first_symbol layout first))) q ∙ first_symbol_lost)
       by_list false q =
           let first_entry = get_or list 0 0 in
-          let some : 0 < length list = not-zero (length list) (eqb-false (length list) 0 q) in
+          let some : 0 < length list = not_zero (length list) (eqb-false (length list) 0 q) in
           among first_entry (ap (λ (c : Bool). cond c (lost layout disks first_entry) (listed list first_entry)) q ∙ listed_entry list 0 some)
         where
-          not-zero : (n : ℕ) → (n ≡ 0 → ⊥) → 0 < n
-          not-zero n h = omega arith
+          not_zero : (n : ℕ) → (n ≡ 0 → ⊥) → 0 < n
+          not_zero n h = omega arith
 
   pub wants_as_asked : (s : ℕ) → asked_symbols code (asked_with_away code (listed_on_set disks list) states) s ≡ asked_symbols code (listed_on_set disks list) s
   wants_as_asked s =

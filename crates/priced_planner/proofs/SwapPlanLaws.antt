@@ -10,7 +10,7 @@ use lib.Ieee.{Float, lt}
 use lib.ListN.{length, get_or}
 use Rattle.bits.specs.BitSets.{has}
 use Rattle.bits.proofs.Booleans.{or_true_if_left, or_true_if_right}
-use Rattle.bits.proofs.ListLaws.{in-symbolsIn}
+use Rattle.bits.proofs.ListLaws.{in_symbols_in}
 use Rattle.bits.proofs.SetLaws.{has_empty, has_sum, below_if_no_high_bits}
 use Rattle.codes.specs.Codes.{LinearCode, symbols, matrix}
 use Rattle.gf2.specs.InnerSubsetPlans.{fill_from, plan_of}
@@ -72,7 +72,7 @@ module _ (code : LinearCode) (asked : Asked) {room : ℕ} (workable : Workable c
       let found = set_with sets s read in
       let is_wanted = wanted_if_used found.place s found.has_it in
       reads_target (λ t. get_or sets t 0) (symbols code) _ found.place s right.below
-      (in-symbolsIn (asked_symbols code asked) 0 (symbols code) found.place (omega arith) (omega (arith, wanted_below found.place is_wanted)) is_wanted) found.has_it)
+      (in_symbols_in (asked_symbols code asked) 0 (symbols code) found.place (omega arith) (omega (arith, wanted_below found.place is_wanted)) is_wanted) found.has_it)
     where
       wanted_if_used : (t u : ℕ) → has (get_or sets t 0) u ≡ true → asked_symbols code asked t ≡ true
       wanted_if_used t u used = by_wish (asked_symbols code asked t) refl

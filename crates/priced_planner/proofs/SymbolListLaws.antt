@@ -13,7 +13,7 @@ use lib.Seq.{take-suc-set}
 use Rattle.bits.specs.BitSets.{has, with}
 use Rattle.bits.specs.Lists.{symbols_in}
 use Rattle.bits.proofs.Booleans.{and_left, and_right, and_true_if_both, or_true_if_left, or_true_if_right}
-use Rattle.bits.proofs.ListLaws.{in-symbolsIn}
+use Rattle.bits.proofs.ListLaws.{in_symbols_in}
 use Rattle.bits.proofs.SetLaws.{has_with}
 use Rattle.lists.specs.Lists.{listed}
 use Rattle.lists.proofs.ListLaws.{listed_passes}
@@ -95,7 +95,7 @@ listed_symbols_in test count s = same_if_both (listed list s) (ltb s count && te
     back : (ltb s count && test s) ≡ true → listed list s ≡ true
     back h =
         listed_if_member list s
-        (in-symbolsIn test 0 count s (omega arith) (omega (arith, ltb-true s count (and_left (ltb s count) (test s) h))) (and_right (ltb s count) (test s) h))
+        (in_symbols_in test 0 count s (omega arith) (omega (arith, ltb-true s count (and_left (ltb s count) (test s) h))) (and_right (ltb s count) (test s) h))
 
 -- ------------------------------------------------------------------
 -- One more number looked at

@@ -52,12 +52,12 @@ module _ (xs : List ℕ) (s : ℕ) (within : s < length xs) {x : ℕ} (is : x �
   -- A set that is empty is passed over
   pub gathered_passed : eqb x 0 ≡ true → {count' : ℕ} {now' : List ℕ} → count' ≡ count → now' ≡ now → Gathered xs (s + 1) count' now'
   unfolding nonempty
-  gathered_passed q count-is now_is =
+  gathered_passed q count_is now_is =
       let same : nonempty (take (s + 1) xs) ≡ nonempty (take s xs) =
       one_more ∙ ap (λ (y : ℕ). nonempty (take s xs) ++ nonempty (y ∷ [])) (eqb-true x 0 q) ∙ append-nil (nonempty (take s xs)) in
       record {
-        few = omega (arith, so_far.few, count-is);
-        counted = count-is ∙ so_far.counted ∙ ap {B = ℕ} length (sym same);
+        few = omega (arith, so_far.few, count_is);
+        counted = count_is ∙ so_far.counted ∙ ap {B = ℕ} length (sym same);
         stored = now_is ∙ so_far.stored ∙ ap padded (sym same);
       }
     where
@@ -80,11 +80,11 @@ module _ (xs : List ℕ) (s : ℕ) (within : s < length xs) {x : ℕ} (is : x �
     -- One that is not empty is stored behind the others
     pub gathered_more : count < set_width → {count' : ℕ} {now' : List ℕ} → count' ≡ count + 1 → now' ≡ set now count x → Gathered xs (s + 1) count' now'
     unfolding padded
-    gathered_more room count-is now_is =
+    gathered_more room count_is now_is =
         let left : set_width - length (nonempty (take s xs)) ≡ suc (set_width - suc (length (nonempty (take s xs)))) = omega (arith, so_far.counted) in
         record {
-          few = omega (arith, so_far.few, count-is);
-          counted = omega (arith, so_far.counted, longer, count-is);
+          few = omega (arith, so_far.few, count_is);
+          counted = omega (arith, so_far.counted, longer, count_is);
           stored =
               now_is
               ∙ ap₂ (λ (l : List ℕ) (n : ℕ). set l n x) (so_far.stored ∙ ap (λ (n : ℕ). nonempty (take s xs) ++ replicate n 0) left) so_far.counted

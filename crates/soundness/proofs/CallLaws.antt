@@ -84,7 +84,7 @@ test_fine layout disks size stripe_bytes read fine =
 module _ (code : LinearCode) (within : WithinLimits code) (disks : List ℕ) where
   -- The equations that were worked out are among the survivors, right and enough
   module _ (known : ℕ) {n count : ℕ} {sets : List ℕ} (n-is : n ≡ symbols code) (known_are : (s : ℕ) → has known s ≡ survives code.layout disks s)
-      (count-is : count ≡ length (equations_of (unit_patterns code.data_symbols) (has known) (take n code.rows)))
+      (count_is : count ≡ length (equations_of (unit_patterns code.data_symbols) (has known) (take n code.rows)))
       (sets_are : sets ≡ padded (equations_of (unit_patterns code.data_symbols) (has known) (take n code.rows))) where
     of_code : equations_of (unit_patterns code.data_symbols) (has known) (take n code.rows) ≡ equations_of (unit_patterns code.data_symbols) (survives code.layout disks) (matrix code)
     of_code =
@@ -92,7 +92,7 @@ module _ (code : LinearCode) (within : WithinLimits code) (disks : List ℕ) whe
 
     pub are_equations : take count sets ≡ survivor_equations code disks
     are_equations =
-        ap₂ (λ (m : ℕ) (l : List ℕ). take m l) count-is sets_are
+        ap₂ (λ (m : ℕ) (l : List ℕ). take m l) count_is sets_are
         ∙ take_padded (equations_of (unit_patterns code.data_symbols) (has known) (take n code.rows))
         ∙ of_code
 
@@ -108,7 +108,7 @@ module _ (code : LinearCode) (within : WithinLimits code) (disks : List ℕ) whe
         let found = pivots (unit_patterns code.data_symbols) surviving in
         omega (
           arith,
-          count-is,
+          count_is,
           ap {B = ℕ} length of_code,
           length_nonempty (row_equations found surviving (length (matrix code)) (unpivoted found (survives code.layout disks))),
           length_tabulate (length (matrix code)) (λ j. cond (unpivoted found (survives code.layout disks) j) (bit_xor (back_substitute found surviving (get_or surviving j 0)) (2 ^ j)) 0),

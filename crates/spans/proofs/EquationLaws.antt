@@ -72,9 +72,9 @@ linear_compose {f} {g} outer inner =
 -- The rows of an equation sum to 0
 pub equation_sums_to_zero : (width : ℕ) (patterns : List ℕ) → StartsWithUnits width patterns → (rows : List ℕ) → Below width rows → (j : ℕ)
     → select rows (equation_of patterns rows j) ≡ 0
-equation_sums_to_zero width patterns start rows rows-below j =
+equation_sums_to_zero width patterns start rows rows_below j =
     (select_linear rows).of_sum (back_substitute (pivots patterns rows) rows (get_or rows j 0)) (2 ^ j)
-    ∙ ap₂ bit_xor (subset_sums_if_remaining_even width patterns start rows (get_or rows j 0) rows-below (rows-below j) (remaining_even_on_rows patterns rows j)) (select_unit rows j)
+    ∙ ap₂ bit_xor (subset_sums_if_remaining_even width patterns start rows (get_or rows j 0) rows_below (rows_below j) (remaining_even_on_rows patterns rows j)) (select_unit rows j)
     ∙ xor_self (get_or rows j 0)
 
 -- So do the values that a linear map makes of them

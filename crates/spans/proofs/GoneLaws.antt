@@ -96,12 +96,12 @@ byte_of_symbol x s =
     let position : s ≡ s * 1 + 0 = omega arith in
     ap (λ (n : ℕ). get_or x n 0) position ∙ sym (get_or_symbol 1 x s 0 (omega arith))
 
-module _ (data_symbols : ℕ) (rows : List ℕ) (rows-below : Below data_symbols rows) where
+module _ (data_symbols : ℕ) (rows : List ℕ) (rows_below : Below data_symbols rows) where
   -- The image of a pattern is its overlap with the symbol's row
   pub image_is_overlap : (s : ℕ) → s < length rows → (pattern : ℕ) → image data_symbols rows s pattern ≡ overlap pattern (get_or rows s 0)
   image_is_overlap s s-below pattern =
       byte_of_symbol (pattern_stripe 1 data_symbols rows pattern) s
-      ∙ ap (λ (l : List ℕ). get_or l 0 0) (symbol_pattern_stripe 1 data_symbols rows pattern s rows-below s-below)
+      ∙ ap (λ (l : List ℕ). get_or l 0 0) (symbol_pattern_stripe 1 data_symbols rows pattern s rows_below s-below)
       ∙ get_or-replicate 1 0 (overlap pattern (get_or rows s 0)) 0 (omega arith)
 
   -- The XOR of the images of a subset is the overlap of the subset's sum
@@ -126,7 +126,7 @@ module _ (data_symbols : ℕ) (rows : List ℕ) (rows-below : Below data_symbols
     pub zero_on_known : (pattern : ℕ) → ((s : ℕ) → known s ≡ true → overlap pattern (get_or rows s 0) ≡ 0) → (L : ℕ)
         → SameSymbols L known (pattern_stripe L data_symbols rows pattern) (zero_stripe L (length rows))
     zero_on_known pattern even L s is_Known =
-        symbol_pattern_stripe L data_symbols rows pattern s rows-below (known_below s is_Known)
+        symbol_pattern_stripe L data_symbols rows pattern s rows_below (known_below s is_Known)
         ∙ ap (replicate L) (even s is_Known)
         ∙ sym (symbol_zero_stripe L (length rows) s (known_below s is_Known))
 

@@ -82,7 +82,7 @@ select_agrees known (x ∷ xs) (y ∷ ys) agree set within =
 -- ------------------------------------------------------------------
 -- Right and enough
 
-module _ (data_symbols : ℕ) (patterns : List ℕ) (start : StartsWithUnits data_symbols patterns) (rows : List ℕ) (rows-below : Below data_symbols rows) (known : ℕ → Bool)
+module _ (data_symbols : ℕ) (patterns : List ℕ) (start : StartsWithUnits data_symbols patterns) (rows : List ℕ) (rows_below : Below data_symbols rows) (known : ℕ → Bool)
     (known_below : PlacesBelow (length rows) known) where
   abbrev surviving : List ℕ
   surviving = survivors known rows
@@ -110,7 +110,7 @@ module _ (data_symbols : ℕ) (patterns : List ℕ) (start : StartsWithUnits dat
   equation_of_known_rows : (j : ℕ) → known j ≡ true → select rows (equation_of patterns surviving j) ≡ 0
   equation_of_known_rows j is_Known =
       sym (select_agrees known surviving rows (survivors_agree rows) (equation_of patterns surviving j) (equation_among_known j is_Known))
-      ∙ equation_sums_to_zero data_symbols patterns start surviving (survivors_below data_symbols known rows rows-below) j
+      ∙ equation_sums_to_zero data_symbols patterns start surviving (survivors_below data_symbols known rows rows_below) j
 
   -- What holds of the empty set and of each known row's equation holds of every row's entry
   of_each_row : (P : ℕ → Type 0) → P 0 → ((j : ℕ) → known j ≡ true → P (equation_of patterns surviving j)) → (j : ℕ) → P (get_or (row_equations found surviving (length rows) chosen) j 0)
@@ -156,7 +156,7 @@ module _ (data_symbols : ℕ) (patterns : List ℕ) (start : StartsWithUnits dat
             λ i. subst (λ (x : ℕ). x < 256) (sym (get_or_map_linear made.linear (units data_symbols) i)) (made.keeps_width 8 (survivors_below 8 known values bytes) (get_or (units data_symbols) i 0));
         gives =
             λ s is_Known.
-            linear_is_encoding data_symbols made.linear (get_or rows s 0) (rows-below s)
+            linear_is_encoding data_symbols made.linear (get_or rows s 0) (rows_below s)
             ∙ ap made.map_is (sym (survivors_agree rows s is_Known))
             ∙ made.makes s
             ∙ survivors_agree values s is_Known;

@@ -20,7 +20,7 @@ use Rattle.plan_sheets.specs.PlanSheets.{step_of, step_at}
 use Rattle.plan_sheets.specs.declared.step.SheetStep.{SheetStep}
 use Rattle.plan_sheets.proofs.ReadingLaws.{steps_from_next, target_step_of}
 use Rattle.stripes.specs.InnerPasses.{adds_other, adds_to, remaining_steps, TakenIn}
-use Rattle.stripes.proofs.PutLaws.{add-to-put}
+use Rattle.stripes.proofs.PutLaws.{add_to_put}
 
 -- ------------------------------------------------------------------
 -- The adds of a sheet
@@ -80,6 +80,6 @@ unfolding summed_parts run_on_stripe
 adds_on_put L x t fits [] rest v v_length within others = refl
 adds_on_put L x t fits (s ∷ sources) rest v v_length within others =
     let s_within = within s (Memᴰ.head refl) in
-    ap (run_on_stripe L (adds_to t sources ++ rest)) (add-to-put L x t v fits v_length s s_within (others s (Memᴰ.head refl)))
+    ap (run_on_stripe L (adds_to t sources ++ rest)) (add_to_put L x t v fits v_length s s_within (others s (Memᴰ.head refl)))
     ∙ adds_on_put L x t fits sources rest (xor_bytes v (symbol L x s)) (length_added L x v s v_length s_within)
     (λ k m. within k (Memᴰ.tail m)) (λ k m. others k (Memᴰ.tail m))

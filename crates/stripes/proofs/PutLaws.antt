@@ -43,6 +43,6 @@ module _ (L : ℕ) (x : List ℕ) (t : ℕ) (v : List ℕ) (fits : SymbolWithin 
       ∙ drop_at v back L v_length)
 
   -- Another symbol added to it: replaced by the new one with that added
-  pub add-to-put : (s : ℕ) → SymbolWithin L (length x) s → s ≢ t
+  pub add_to_put : (s : ℕ) → SymbolWithin L (length x) s → s ≢ t
       → put_symbol L put t (xor_bytes (symbol L put t) (symbol L put s)) ≡ put_symbol L x t (xor_bytes v (symbol L x s))
-  add-to-put s h apart = ap₂ (λ (a b : List ℕ). put_symbol L put t (xor_bytes a b)) symbol_put_same (symbol_put_other s h apart) ∙ put_put (xor_bytes v (symbol L x s))
+  add_to_put s h apart = ap₂ (λ (a b : List ℕ). put_symbol L put t (xor_bytes a b)) symbol_put_same (symbol_put_other s h apart) ∙ put_put (xor_bytes v (symbol L x s))

@@ -18,13 +18,13 @@ pub byte_stored : (text : Text) (byte : ℕ) → HasRoom text 1
 byte_stored text byte has =
     record {
       whole = length-set text.bytes text.len byte ∙ has.whole;
-      len-to = omega arith;
+      len_to = omega arith;
       holds = rw add-one (take-suc-set text.bytes text.len byte (omega (arith, has.whole, has.room)));
     }
 
 -- A text has nothing behind itself
 pub extended_by_nothing : (text : Text) → length text.bytes ≡ 160 → Extended text 0 [] text
-extended_by_nothing text whole = record { whole = whole; len-to = omega arith; holds = sym (append-nil (text_of text)) }
+extended_by_nothing text whole = record { whole = whole; len_to = omega arith; holds = sym (append-nil (text_of text)) }
 
 -- Two pieces one after the other
 pub extended_twice : {text front end : Text} {most more : ℕ} {first second : List ℕ}
@@ -32,7 +32,7 @@ pub extended_twice : {text front end : Text} {most more : ℕ} {first second : L
 extended_twice {text} {first = first} {second = second} begun ended =
     record {
       whole = ended.whole;
-      len-to = omega (arith, begun.len-to, ended.len-to);
+      len_to = omega (arith, begun.len_to, ended.len_to);
       holds = ended.holds ∙ ap (λ (l : List ℕ). l ++ second) begun.holds ∙ append_assoc (text_of text) first second;
     }
 
@@ -40,7 +40,7 @@ extended_twice {text} {first = first} {second = second} begun ended =
 pub extended_as : {text end : Text} {most : ℕ} {piece : List ℕ} (other : ℕ) (name : List ℕ) → most ≤ other → piece ≡ name
     → Extended text most piece end → Extended text other name end
 extended_as {text} other name h e begun =
-    record { whole = begun.whole; len-to = omega (arith, begun.len-to); holds = begun.holds ∙ ap (λ (l : List ℕ). text_of text ++ l) e }
+    record { whole = begun.whole; len_to = omega (arith, begun.len_to); holds = begun.holds ∙ ap (λ (l : List ℕ). text_of text ++ l) e }
 
 -- A text within its buffer holds as many bytes as its length says
 pub length_text_of : (text : Text) → length text.bytes ≡ 160 → text.len ≤ 160 → length (text_of text) ≡ text.len
@@ -94,10 +94,10 @@ pub holds_alone : {start end : Text} {most : ℕ} {piece : List ℕ} → start.l
 holds_alone {start} {piece = piece} none h more =
     record {
       whole = more.whole;
-      len-to = omega (arith, more.len-to);
+      len_to = omega (arith, more.len_to);
       holds = more.holds ∙ ap (λ (n : ℕ). take n start.bytes ++ piece) none;
     }
 
 -- The same text under another name
 pub holds_as : {text : Text} {piece : List ℕ} (name : List ℕ) → piece ≡ name → Holds text piece → Holds text name
-holds_as name e held = record { whole = held.whole; len-to = held.len-to; holds = held.holds ∙ e }
+holds_as name e held = record { whole = held.whole; len_to = held.len_to; holds = held.holds ∙ e }

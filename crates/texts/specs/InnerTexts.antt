@@ -14,11 +14,11 @@ pub record HasRoom (text : Text) (most : ℕ) : Type 0 where
 -- A text with a piece, of at most so many bytes, behind what it held
 pub record Extended (text : Text) (most : ℕ) (piece : List ℕ) (result : Text) : Type 0 where
   pub whole : length result.bytes ≡ 160
-  pub len-to : result.len ≤ text.len + most
+  pub len_to : result.len ≤ text.len + most
   pub holds : text_of result ≡ text_of text ++ piece
 
 -- A text that is just this piece
 pub record Holds (text : Text) (piece : List ℕ) : Type 0 where
   pub whole : length text.bytes ≡ 160
-  pub len-to : text.len ≤ 160
+  pub len_to : text.len ≤ 160
   pub holds : text_of text ≡ piece

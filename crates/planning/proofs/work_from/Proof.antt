@@ -35,7 +35,7 @@ eliminated c =
 
 -- The array's symbols and its data symbols are few enough for a set
 symbols_small : (c : tie.Start) → c.args.loss.symbols ≤ set_width
-symbols_small c = omega (arith, c.requires.1.count-is, c.requires.0.within.symbols_to)
+symbols_small c = omega (arith, c.requires.1.count_is, c.requires.0.within.symbols_to)
 
 data_small : (c : tie.Start) → c.args.code.data_symbols ≤ set_width
 data_small c = omega (arith, c.requires.0.within.data_to)

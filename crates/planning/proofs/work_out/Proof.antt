@@ -33,7 +33,7 @@ work_from_requires : tie.Need-work_from_requires
 work_from_requires c κs =
     let loss = c.before.before.loss_of.ensures in (
       c.before.before.before.before.before.before.before.before.requires,
-      record { count-is = loss.0; wanted_are = loss.1.1.0; known_survive = λ s h. sym (loss.1.0 s) ∙ h },
+      record { count_is = loss.0; wanted_are = loss.1.1.0; known_survive = λ s h. sym (loss.1.0 s) ∙ h },
     )
 
 same_length : tie.Need-same_length

@@ -57,7 +57,7 @@ work_from_requires c κs =
     let loss = c.before.before.before.before.loss_of.ensures in (
       began.requires,
       record {
-        count-is = loss.0;
+        count_is = loss.0;
         wanted_are = loss.1.1.0;
         known_survive = λ s h. sym (loss.1.0 s) ∙ c.before.fewest.ensures.within s h;
       },

@@ -57,7 +57,7 @@ eliminated c =
     let loss = (loss_at c).loss_of.ensures in
     let solved = c.eliminate_known.ensures in
     record {
-      chosen = record { count-is = loss.0; wanted_are = loss.1.1.0; known_survive = λ s h. sym (loss.1.0 s) ∙ h };
+      chosen = record { count_is = loss.0; wanted_are = loss.1.1.0; known_survive = λ s h. sym (loss.1.0 s) ∙ h };
       surviving_are = solved.0;
       found_are = solved.1.0;
       left_are = solved.1.1;

@@ -92,7 +92,7 @@ push_number_push_requires_2 : (t : ℕ) → push_number_lts.Need-push_requires_2
 push_number_push_requires_2 t c κs =
     let start = c.before.before in
     let front = c.push_number.ensures in
-    record { whole = front.whole; room = omega (arith, start.requires.1.room, front.len-to, length_decimal_last start.args.number c.before.if1.false) }
+    record { whole = front.whole; room = omega (arith, start.requires.1.room, front.len_to, length_decimal_last start.args.number c.before.if1.false) }
 
 push_number_returns_2 : (t : ℕ) → push_number_lts.Need-returns_2 (
   push_reads.Asked,

@@ -13,7 +13,7 @@ push_number_requires : tie.Need-push_number_requires
 push_number_requires c κs =
     let pre = c.before.before.requires in
     let front = c.push_text.ensures in
-    record { whole = front.whole; room = omega (arith, pre.room, front.len-to, decimal_short c.before.before.args.number (omega arith)) }
+    record { whole = front.whole; room = omega (arith, pre.room, front.len_to, decimal_short c.before.before.args.number (omega arith)) }
 
 returns : tie.Need-returns
 returns c = labelled_pushed _ _ (omega arith) c.before.push_text.ensures c.push_number.ensures

@@ -23,7 +23,7 @@ push_requires : tie.Need-push_requires invariant_loop decreases_loop
 push_requires c κs =
     let loop = c.before.before.loop in
     let pre = c.before.before.before.before.requires in
-    record { whole = loop.invariant.1.whole; room = omega (arith, loop.invariant.1.len-to, pre.room) }
+    record { whole = loop.invariant.1.whole; room = omega (arith, loop.invariant.1.len_to, pre.room) }
 
 add_i : tie.Need-overflow-add-i invariant_loop decreases_loop
 add_i c = omega arith
