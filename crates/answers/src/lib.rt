@@ -1,5 +1,7 @@
 // How answers go out to C: a struct for each kind of answer, and the function that makes it. Enums go out as the number and the place of
 // document 01's table beside the values of their case.
+#![tactic(auto)]
+
 ghost use Rattle.std.specs.Prelude.{◌≡◌, ◌%◌, ◌^◌, length, get_or, take};
 ghost use Rattle.bits.specs.Numerals.{numerals};
 ghost use Rattle.plans.specs.Check.{as_checked};
@@ -21,7 +23,7 @@ pub mod priced; // priced.rt: what priced planning answers
 
 // Nothing refused, or the refusal: navorzim_verdict in C.
 #[repr(C)]
-#[derive(Drop)]
+#[derive(Clone, Copy)]
 pub struct OutVerdict {
     pub number: u64,
     pub place: usize,
@@ -29,7 +31,7 @@ pub struct OutVerdict {
 
 // The shape of a code that was read: navorzim_code in C.
 #[repr(C)]
-#[derive(Drop)]
+#[derive(Clone, Copy)]
 pub struct OutCode {
     pub number: u64,
     pub place: usize,
@@ -41,7 +43,7 @@ pub struct OutCode {
 
 // The length of a code sheet that was written: navorzim_sheet in C.
 #[repr(C)]
-#[derive(Drop)]
+#[derive(Clone, Copy)]
 pub struct OutSheet {
     pub number: u64,
     pub place: usize,
@@ -50,7 +52,7 @@ pub struct OutSheet {
 
 // The read count of a plan that was accepted: navorzim_checked in C.
 #[repr(C)]
-#[derive(Drop)]
+#[derive(Clone, Copy)]
 pub struct OutChecked {
     pub number: u64,
     pub place: usize,
@@ -59,7 +61,7 @@ pub struct OutChecked {
 
 // A plan's length and read count, or how many patterns there are and the first of them: navorzim_planned in C. Sets are one word: pattern_high is 0.
 #[repr(C)]
-#[derive(Drop)]
+#[derive(Clone, Copy)]
 pub struct OutPlanned {
     pub number: u64,
     pub place: usize,
@@ -72,7 +74,7 @@ pub struct OutPlanned {
 
 // A set of symbols or data symbols, as two words: navorzim_set in C. Sets are one word: high is 0.
 #[repr(C)]
-#[derive(Drop)]
+#[derive(Clone, Copy)]
 pub struct OutSet {
     pub number: u64,
     pub place: usize,
@@ -82,7 +84,7 @@ pub struct OutSet {
 
 // Where a part lies: navorzim_part in C.
 #[repr(C)]
-#[derive(Drop)]
+#[derive(Clone, Copy)]
 pub struct OutPart {
     pub slice: usize,
     pub start: usize,

@@ -11,7 +11,7 @@ use priced_planner::{Priced, PricedAnswer};
 // A plan's length, read count and sum, with 1 for settled and 0 for stopped; or how many patterns there are and the first of them: navorzim_priced in C. Sets
 // are one word: pattern_high is 0.
 #[repr(C)]
-#[derive(Drop)]
+#[derive(Clone, Copy)]
 pub struct OutPriced {
     pub number: u64,
     pub place: usize,

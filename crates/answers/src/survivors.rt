@@ -8,7 +8,7 @@ use soundness::{EquationsAnswer, Listed, Tested};
 
 // How many equations there are: navorzim_count in C.
 #[repr(C)]
-#[derive(Drop)]
+#[derive(Clone, Copy)]
 pub struct OutCount {
     pub number: u64,
     pub place: usize,
@@ -17,7 +17,7 @@ pub struct OutCount {
 
 // Whether survivors can be sound: 1, or 0 and a column. navorzim_tested in C.
 #[repr(C)]
-#[derive(Drop)]
+#[derive(Clone, Copy)]
 pub struct OutTested {
     pub number: u64,
     pub place: usize,

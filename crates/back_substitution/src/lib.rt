@@ -1,4 +1,6 @@
 // Back substitution over arrays of sets: which rows the pivots take out of a row.
+#![tactic(auto)]
+
 ghost use Rattle.std.specs.Prelude.{◌≡◌, ◌≤◌, take};
 ghost use Rattle.bits.specs.Numerals.{set_width, numeral, numerals};
 ghost use Rattle.gf2.specs.InnerElimination.{back_substitute};

@@ -1,5 +1,7 @@
 // Rows and sets of symbols as sets of bits.
 // A set's word is known here alone: code above uses these functions, and contracts speak of the set's number.
+#![tactic(auto)]
+
 ghost use Rattle.std.specs.Prelude.{◌≡◌, not, ◌-◌, ◌*◌, ◌/◌, ◌%◌, ◌^◌, ◌≤◌, ◌<◌, eqb, ltb, replicate};
 ghost use Rattle.std.specs.Int.Bits.{bit_and, bit_or, bit_xor};
 ghost use Rattle.bits.specs.BitSets.{has, with, below, count, overlap};
@@ -7,7 +9,7 @@ ghost use Rattle.bits.specs.Lists.{first_from};
 ghost use Rattle.bits.specs.Numerals.{set_width, numeral, numerals, first_difference};
 
 // A row of a code, a set of symbols or a pattern: bit 0 is the lowest.
-#[derive(Drop)]
+#[derive(Clone, Copy)]
 pub struct BitSet {
     word: u64,
 }

@@ -1,4 +1,6 @@
 // What a code keeps, whatever sheet it stands on: the limits of an array, and rows without a bit at K or above.
+#![tactic(auto)]
+
 ghost use Rattle.std.specs.Prelude.{◌≡◌, ◌≤◌, ◌<◌};
 ghost use Rattle.bits.specs.Numerals.{set_width, numerals};
 ghost use Rattle.refusals.specs.Orders.{outcome, and_then};

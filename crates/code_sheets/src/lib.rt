@@ -1,4 +1,6 @@
 // The code sheet, read and written: refusals 1 to 6 in their order, and the code by value.
+#![tactic(auto)]
+
 ghost use Rattle.std.specs.Prelude.{◌≡◌, ◌<◌};
 ghost use Rattle.codes.specs.Codes.{linear, no_code, WithinLimits};
 ghost use Rattle.refusals.specs.Orders.{Fine, outcome, first_of};
@@ -16,7 +18,7 @@ pub mod write; // write.rt: the bytes of a code's sheet
 use rows::{read_rows, sheet_length};
 
 // What a code sheet says: nothing is wrong with it and this is its code, or the first refusal and no code.
-#[derive(Drop)]
+#[derive(Clone, Copy)]
 pub struct Reading {
     pub verdict: Verdict,
     pub code: Code,

@@ -1,4 +1,6 @@
 // A code by value, and its layout: which symbols lie on which disk.
+#![tactic(auto)]
+
 ghost use Rattle.std.specs.Prelude.{◌≡◌, ◌*◌, ◌≤◌, ◌<◌, eqb};
 ghost use Rattle.codes.specs.Lengths.{symbol_length_faults, stripe_faults};
 ghost use Rattle.refusals.specs.Orders.{outcome, and_then};
@@ -8,14 +10,14 @@ use bits::BitSets;
 use refusals::{Refusal, Verdict};
 
 // The disks of an array and the symbols on each. Symbols are numbered disk after disk.
-#[derive(Drop)]
+#[derive(Clone, Copy)]
 pub struct Layout {
     pub disks: usize,
     pub height: usize,
 }
 
 // A code, held whole: row s of the generator matrix is rows[s]; rows behind the last symbol are empty.
-#[derive(Drop)]
+#[derive(Clone, Copy)]
 pub struct Code {
     pub layout: Layout,
     pub data_symbols: usize,

@@ -1,4 +1,6 @@
 // What the desk answers: the parts of its input, the check, and the lines in a buffer.
+#![tactic(auto)]
+
 ghost use Rattle.std.specs.Prelude.{◌≡◌, ◌≤◌, ◌<◌, length};
 ghost use Rattle.desk_answers.specs.DeskAnswers.{sheet_length_in, code_sheet_in, plan_sheet_in, desk_text, written_length, written_over};
 ghost use Rattle.texts.specs.InnerTexts.{text_of, Holds};

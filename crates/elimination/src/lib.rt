@@ -1,4 +1,6 @@
 // Elimination by patterns over arrays of sets: the rows' pivots and the patterns that remain.
+#![tactic(auto)]
+
 ghost use Rattle.std.specs.Prelude.{◌≡◌, ◌≤◌, eqb, take};
 ghost use Rattle.bits.specs.BitSets.{overlap};
 ghost use Rattle.bits.specs.Numerals.{set_width, numeral, numerals};
@@ -8,7 +10,7 @@ ghost use Rattle.elimination.specs.InnerPatterns.{unit_patterns, ZeroBehind, fir
 use bits::{BitSet, BitSets, common, empty, empty_sets, is_empty, odd_overlap, sum, with};
 
 // The patterns after all rows, and the pivot of each row.
-#[derive(Drop)]
+#[derive(Clone, Copy)]
 pub struct Eliminated {
     pub remaining: BitSets,
     pub pivots: BitSets,

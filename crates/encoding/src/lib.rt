@@ -1,4 +1,6 @@
 // Encoding: the generator-matrix product, symbol by symbol.
+#![tactic(auto)]
+
 ghost use Rattle.std.specs.Prelude.{◌≡◌, ◌*◌, ◌≤◌, length, take};
 ghost use Rattle.bits.specs.Numerals.{set_width, numerals};
 ghost use Rattle.gf2.specs.Stripes.{encoding};

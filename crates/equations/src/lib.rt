@@ -1,4 +1,6 @@
 // Equations among the known symbols of an array: sets of them whose rows sum to zero.
+#![tactic(auto)]
+
 ghost use Rattle.std.specs.Prelude.{◌≡◌, ◌&&◌, ◌≤◌, ◌<◌, eqb, length, take};
 ghost use Rattle.bits.specs.BitSets.{has};
 ghost use Rattle.bits.specs.Numerals.{set_width, numeral, numerals, padded};

@@ -1,4 +1,6 @@
 // A family's code sheet, written into a lent buffer.
+#![tactic(auto)]
+
 ghost use Rattle.std.specs.Prelude.{◌≡◌, true, length};
 ghost use Rattle.family_codes.specs.Families.{listed};
 ghost use Rattle.refusals.specs.Orders.{outcome};
@@ -12,7 +14,7 @@ use family_matrices::code_of;
 use refusals::{Refusal, Verdict};
 
 // The length of the sheet that was written, or why none was.
-#[derive(Drop)]
+#[derive(Clone, Copy)]
 pub enum Written {
     Sheet { length: usize },
     Refused(Refusal),

@@ -1,4 +1,6 @@
 // What a row of the generator matrix takes of a disk.
+#![tactic(auto)]
+
 ghost use Rattle.std.specs.Prelude.{◌≡◌, true, ◌+◌, ◌≤◌, ◌<◌};
 ghost use Rattle.bits.specs.Numerals.{numeral};
 ghost use Rattle.family_codes.specs.Families.{listed, data_disks, family_height, entry, liberation_entry, extra_entry, diagonal_entry};

@@ -1,4 +1,6 @@
 // A family's generator matrix, and so its code: the row of each symbol.
+#![tactic(auto)]
+
 ghost use Rattle.std.specs.Prelude.{◌≡◌, true, ◌+◌, ◌≤◌, ◌<◌};
 ghost use Rattle.bits.specs.Numerals.{numeral};
 ghost use Rattle.codes.specs.Codes.{linear};

@@ -3,6 +3,8 @@
 // A pattern's image is the set of the symbols on which it shows. A set is enough exactly if every image that avoids it avoids the wanted symbols too, so
 // it meets every image that has a wanted symbol. The search takes such an image, and for the first symbol of it that may be taken it tries both: to
 // take it, after which the images are reduced to those that avoid it, and to leave it out.
+#![tactic(auto)]
+
 ghost use Rattle.std.specs.Prelude.{◌≡◌, List, ℕ, ◌+◌, ◌^◌, ◌≤◌, ◌<◌, length, get_or, take};
 ghost use Rattle.std.specs.Int.Bits.{bit_xor};
 ghost use Rattle.bits.specs.BitSets.{has};
@@ -122,7 +124,7 @@ fn spread(images: BitSets, total: usize, allowed: BitSet) -> BitSets
 }
 
 // Images that share no symbol that may be taken: their symbols of this kind, and how many images they are.
-#[derive(Drop)]
+#[derive(Clone, Copy)]
 struct Disjoint {
     used: BitSet,
     found: usize,
@@ -241,7 +243,7 @@ fn first_images(
 }
 
 // What a search found, and how many branchings are left of those that it might make.
-#[derive(Drop)]
+#[derive(Clone, Copy)]
 struct Searching {
     best: BitSet,
     branchings: usize,

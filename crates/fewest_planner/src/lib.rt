@@ -1,4 +1,6 @@
 // A plan with the fewest reads for lost disks that leave at most 16 symbols, or the patterns that tell what is gone: document 02's §13.
+#![tactic(auto)]
+
 ghost use Rattle.std.specs.Prelude.{◌≡◌, length};
 ghost use Rattle.code_sheets.specs.CodeReading.{reading};
 ghost use Rattle.codes.specs.Codes.{linear, WithinLimits};

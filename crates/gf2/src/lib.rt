@@ -1,7 +1,9 @@
 // The theory of plans, of elimination and of stripes over sets of bits, and the steps of a plan.
 
 // One step of a plan, over symbol numbers (document 01, the plan sheet).
-#[derive(Drop)]
+#![tactic(auto)]
+
+#[derive(Clone, Copy)]
 pub enum Step {
     Clear { target: usize },
     Copy { target: usize, source: usize },

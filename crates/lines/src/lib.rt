@@ -1,4 +1,6 @@
 // The lines that the desk prints: each behind the text so far, then all of an answer.
+#![tactic(auto)]
+
 ghost use Rattle.lines.specs.Lines.{code_line, disk_line, accepted_lines, refusal_line, answer_lines, lines_of};
 ghost use Rattle.refusals.specs.Refusals.{numbered};
 ghost use Rattle.refusals.specs.Orders.{Fine};

@@ -1,4 +1,6 @@
 // What a plan is judged by: the symbols that survive and those that are wanted, as sets.
+#![tactic(auto)]
+
 ghost use Rattle.std.specs.Prelude.{◌≡◌, cond, ℕ, ◌^◌, ◌<◌, eqb, length, get_or};
 ghost use Rattle.codes.specs.Layouts.{symbols_of, disk_of};
 ghost use Rattle.codes.specs.Codes.{LayoutWithin};
@@ -15,7 +17,7 @@ use sheets::byte_at;
 pub mod bounds; // bounds.rt: how many entries a list may have
 
 // Of an array's symbols those that survive and those that are wanted; places of wanted symbols count from `origin`.
-#[derive(Drop)]
+#[derive(Clone, Copy)]
 pub struct Loss {
     pub symbols: usize,
     pub survivors: BitSet,

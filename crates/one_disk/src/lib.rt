@@ -1,4 +1,6 @@
 // Checking and rebuilding for one disk, by its number: the calls about the set of that disk. A number that no byte holds is none of any array's.
+#![tactic(auto)]
+
 ghost use Rattle.std.specs.Prelude.{◌↔◌, ◌≡◌, [], ◌∷◌, ℕ, length};
 ghost use Rattle.plans.specs.Check.{as_checked, checked};
 ghost use Rattle.plans.specs.Demand2.{DeservesAcceptance};

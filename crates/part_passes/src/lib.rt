@@ -1,4 +1,6 @@
 // One pass over the bytes of a target whose sources are parts of another slice, each as long as the target.
+#![tactic(auto)]
+
 ghost use Rattle.std.specs.Prelude.{◌≡◌, ◌≤◌, ◌<◌, length, take, replicate};
 ghost use Rattle.gf2.specs.Stripes.{xor_bytes};
 ghost use Rattle.passes.specs.InnerSums.{summed_parts, summed_byte, part_bytes};

@@ -1,4 +1,6 @@
 // One pass over the bytes of a symbol: what it takes. Each byte of a sum is made in one go and stored once.
+#![tactic(auto)]
+
 ghost use Rattle.std.specs.Prelude.{◌≡◌, cond, ◌<◌, eqb};
 ghost use Rattle.passes.specs.InnerSources.{no_sources, with_source};
 
@@ -6,7 +8,7 @@ ghost use Rattle.passes.specs.InnerSources.{no_sources, with_source};
 pub const MOST_SOURCES: usize = 5;
 
 // The symbols that a pass adds to what it begins with: the first `count` of five, in this order.
-#[derive(Drop)]
+#[derive(Clone, Copy)]
 pub struct Sources {
     pub count: usize,
     pub a: usize,

@@ -1,4 +1,6 @@
 // What can be asked of planning, and what is tested of it, behind the code sheet: 7, 24, 23, 34 in their order.
+#![tactic(auto)]
+
 ghost use Rattle.std.specs.Prelude.{◌≡◌, cond, ◌++◌, eqb};
 ghost use Rattle.bits.specs.BitSets.{count};
 ghost use Rattle.bits.specs.Numerals.{numeral};

@@ -7,7 +7,7 @@ ghost use Rattle.plan_sheets.specs.InnerPlanSheets.{first_numbers, disk_bytes, w
 use sheets::{byte_at, two_bytes_at, write_list, write_two_bytes};
 
 // What a plan sheet says before its lists; `count` is its first byte.
-#[derive(Drop)]
+#[derive(Clone, Copy)]
 pub struct PlanHead {
     pub count: usize,
     pub edition: usize,
@@ -43,14 +43,14 @@ pub fn read_head(plan: &[u8]) -> PlanHead
 }
 
 // Where a list lies in a sheet: its first entry and their number.
-#[derive(Drop)]
+#[derive(Clone, Copy)]
 pub struct ListPlace {
     pub first: usize,
     pub count: usize,
 }
 
 // Where both lists lie; the step count stands behind them, then the steps.
-#[derive(Drop)]
+#[derive(Clone, Copy)]
 pub struct Sections {
     pub failed: ListPlace,
     pub wanted: ListPlace,

@@ -1,5 +1,7 @@
 // A plan sheet, read and written. No other crate knows where a byte of one lies.
 // It is written at the front of a lent buffer, from a subset of the survivors for each wanted symbol.
+#![tactic(auto)]
+
 ghost use Rattle.std.specs.Prelude.{◌≡◌, cond, ◌+◌, ◌≤◌, ◌<◌, length};
 ghost use Rattle.bits.specs.BitSets.{has};
 ghost use Rattle.bits.specs.Numerals.{set_width, numeral, numerals};
@@ -19,14 +21,14 @@ use head::{PlanHead, head_length, sections_for, sheet_length, write_head};
 use step::write_step;
 
 // The sheet's length and read count.
-#[derive(Drop)]
+#[derive(Clone, Copy)]
 pub struct Written {
     pub length: usize,
     pub reads: usize,
 }
 
 // How many steps there are, and the symbols that they name as a source.
-#[derive(Drop)]
+#[derive(Clone, Copy)]
 struct Steps {
     count: usize,
     sources: BitSet,

@@ -8,7 +8,7 @@ ghost use Rattle.plan_sheets.specs.InnerPlanSheets.{with_steps, StepsWithin, Ste
 use gf2::Step;
 
 // A step as a sheet has it.
-#[derive(Drop)]
+#[derive(Clone, Copy)]
 pub struct SheetStep {
     pub kind: usize,
     pub target: usize,

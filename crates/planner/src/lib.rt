@@ -1,4 +1,6 @@
 // A plan for lost disks, or for those of their symbols that are wanted, or the patterns that tell what is gone: demand 3, and document 02's §9.
+#![tactic(auto)]
+
 ghost use Rattle.std.specs.Prelude.{◌≡◌, length};
 ghost use Rattle.refusals.specs.Orders.{outcome_of};
 ghost use Rattle.plan_requests.specs.PlanRequests.{whole_disk, listed_on, listed_on_set, planning_verdict};

@@ -1,4 +1,6 @@
 // The work of planning, once nothing is refused: elimination over the surviving rows, then a plan sheet, or the patterns that tell what is gone.
+#![tactic(auto)]
+
 ghost use Rattle.std.specs.Prelude.{◌≡◌, length, take};
 ghost use Rattle.bits.specs.BitSets.{has};
 ghost use Rattle.bits.specs.Numerals.{numeral, numerals};
@@ -16,7 +18,7 @@ use refusals::Refusal;
 use solve::{SetList, eliminate_known, lost_patterns, odd_pattern, wanted_subsets};
 
 // What planning answers: a plan sheet's length and read count, how many patterns tell what is gone where there is no plan, or the first refusal.
-#[derive(Drop)]
+#[derive(Clone, Copy)]
 pub enum Planned {
     Plan { length: usize, reads: usize },
     Patterns { count: usize },
@@ -24,7 +26,7 @@ pub enum Planned {
 }
 
 // The answer, and the patterns beside it: as many as it says, then empty sets.
-#[derive(Drop)]
+#[derive(Clone, Copy)]
 pub struct PlanningAnswer {
     pub planned: Planned,
     pub patterns: BitSets,

@@ -23,6 +23,8 @@
 //   patterns COUNT PATTERN .. same good                      whether the buffer is as it was, and each pattern's stripe as it has to be
 //
 // Where one of these is not so, its word begins with "not-".
+#![tactic(auto)]
+
 ghost use Rattle.std.specs.Prelude.{◌≡◌, ◌≤◌, length};
 
 use bits::{BitSets, SET_WIDTH, low_word};

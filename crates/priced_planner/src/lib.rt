@@ -1,4 +1,6 @@
 // A plan for lost disks where reads have prices: asked like planning for edition 3, and told the state of each disk.
+#![tactic(auto)]
+
 ghost use Rattle.std.specs.Prelude.{◌≡◌, length, take};
 ghost use Rattle.bits.specs.Numerals.{numerals};
 ghost use Rattle.codes.specs.Codes.{linear};
@@ -27,7 +29,7 @@ use work::work_out_priced;
 
 // What is answered: a plan sheet's length and read count with the sum of its charges, settled or stopped; how many patterns tell what is gone where there is
 // no plan; or the first refusal.
-#[derive(Drop)]
+#[derive(Clone, Copy)]
 pub enum Priced {
     Plan {
         length: usize,
@@ -42,7 +44,7 @@ pub enum Priced {
 }
 
 // The answer, and the patterns beside it: as many as it says, then empty sets.
-#[derive(Drop)]
+#[derive(Clone, Copy)]
 pub struct PricedAnswer {
     pub priced: Priced,
     pub patterns: BitSets,

@@ -11,7 +11,7 @@ use prices::DiskStates;
 use prices::states::is_away;
 
 // A list of numbers that bytes can hold: the first `count` entries.
-#[derive(Drop)]
+#[derive(Clone, Copy)]
 pub struct ByteList {
     pub entries: [u8; SET_WIDTH],
     pub count: usize,

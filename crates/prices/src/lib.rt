@@ -1,4 +1,6 @@
 // What reading costs: the state of each disk, its charge for the symbols that are read of it, and the sum of the charges in disk order.
+#![tactic(auto)]
+
 ghost use Rattle.std.specs.Prelude.{◌≡◌};
 ghost use Rattle.bits.specs.BitSets.{has};
 ghost use Rattle.bits.specs.Numerals.{numeral, numerals};
@@ -14,7 +16,7 @@ pub mod states; // states.rt: which states a disk can be in
 pub mod kinds; // kinds.rt: states from kinds, prices and factors, as C hands them over
 
 // A disk is away, or idle at a price per symbol, or busy at a price and a factor.
-#[derive(Drop)]
+#[derive(Clone, Copy)]
 pub enum DiskState {
     Away,
     Idle { price: f64 },

@@ -1,6 +1,8 @@
 // What a program of test records needs: the numbers and parts of a record, buffers filled from a seed, and words and numbers printed.
 //
 // All numbers of a record have their low byte first.
+#![tactic(auto)]
+
 ghost use Rattle.std.specs.Prelude.{◌≡◌, ◌≤◌, ◌<◌, length, take, drop, replicate};
 ghost use Rattle.lists.specs.Lists.{listed, same};
 ghost use Rattle.records.specs.Records.{number_at, front, small_product, seeded, filled_part, digest_from, low_bits};

@@ -1,4 +1,6 @@
 // One encoded symbol: the data symbols of a row, up to six summed in one pass over the target's bytes.
+#![tactic(auto)]
+
 ghost use Rattle.std.specs.Prelude.{◌≡◌, ◌+◌, ◌-◌, ◌*◌, ◌≤◌, ◌<◌, length};
 ghost use Rattle.bits.specs.BitSets.{has};
 ghost use Rattle.bits.specs.Lists.{first_from};
@@ -13,7 +15,7 @@ use part_passes::{add, clear, copy};
 use passes::{MOST_SOURCES, Sources, no_sources, with_source};
 
 // The sources of a pass, and where the next one begins: a data symbol, or K where none is left.
-#[derive(Drop)]
+#[derive(Clone, Copy)]
 struct Gathered {
     sources: Sources,
     next: usize,

@@ -1,4 +1,6 @@
 // What both sheets rest on: a byte at a place, numbers as bytes, and lists behind their count.
+#![tactic(auto)]
+
 ghost use Rattle.std.specs.Prelude.{◌≡◌, [], ◌∷◌, ◌+◌, ◌/◌, ◌%◌, ◌≤◌, ◌<◌, length, get_or};
 ghost use Rattle.sheets.specs.Buffers.{from_place};
 ghost use Rattle.sheets.specs.Bytes.{two_bytes_at, counted};

@@ -1,5 +1,7 @@
 // What the known symbols of an array say of the wanted ones: elimination over the known rows, a pattern that shows a wanted symbol out of reach,
 // and for each wanted symbol the subset of the known ones that sums to it; and where some are out of reach, the patterns that are lost with them.
+#![tactic(auto)]
+
 ghost use Rattle.std.specs.Prelude.{◌≡◌, ◌≤◌, length, take};
 ghost use Rattle.bits.specs.BitSets.{has};
 ghost use Rattle.bits.specs.Lists.{symbols_in};
@@ -20,7 +22,7 @@ pub use set_lists::SetList;
 use set_lists::nonempty_sets;
 
 // Elimination over the known symbols: their rows, the pivot of each, and the patterns that remain.
-#[derive(Drop)]
+#[derive(Clone, Copy)]
 pub struct Elimination {
     pub surviving: BitSets,
     pub pivots: BitSets,

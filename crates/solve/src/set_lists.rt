@@ -6,7 +6,7 @@ ghost use Rattle.gf2.specs.InnerElimination.{nonempty};
 use bits::{BitSets, empty_sets, is_empty};
 
 // The first `count` sets of an array; those behind them are empty.
-#[derive(Drop)]
+#[derive(Clone, Copy)]
 pub struct SetList {
     pub count: usize,
     pub sets: BitSets,

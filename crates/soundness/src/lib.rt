@@ -1,4 +1,6 @@
 // A tester for survivors: the equations among them, and whether they can be sound.
+#![tactic(auto)]
+
 ghost use Rattle.std.specs.Prelude.{◌≡◌, ◌*◌, ◌≤◌, length, take};
 ghost use Rattle.bits.specs.Numerals.{set_width, numerals};
 ghost use Rattle.code_sheets.specs.CodeReading.{reading};
@@ -22,21 +24,21 @@ pub mod columns; // columns.rt: the lowest column of a stripe in which an equati
 use columns::lowest_failing;
 
 // How many equations there are, or the first refusal.
-#[derive(Drop)]
+#[derive(Clone, Copy)]
 pub enum Listed {
     Equations { count: usize },
     Refused(Refusal),
 }
 
 // The answer, and the equations beside it: as many as it says, then empty sets.
-#[derive(Drop)]
+#[derive(Clone, Copy)]
 pub struct EquationsAnswer {
     pub listed: Listed,
     pub equations: BitSets,
 }
 
 // What the test answers: the survivors can be sound, or not, with the lowest column that shows it, or the first refusal.
-#[derive(Drop)]
+#[derive(Clone, Copy)]
 pub enum Tested {
     Sound,
     Unsound { column: usize },

@@ -1,4 +1,6 @@
 // One strip: a part of the caller's own stripe, and the twin call that says why there is none.
+#![tactic(auto)]
+
 ghost use Rattle.std.specs.Prelude.{◌≡◌, ◌≤◌, ◌<◌, length};
 ghost use Rattle.refusals.specs.Orders.{Fine, outcome, and_then};
 ghost use Rattle.strips.specs.Strips.{strip_faults, strip_verdict, strip_shown};
@@ -9,7 +11,7 @@ use codes::{Layout, stripe_test};
 use refusals::{Refusal, Verdict};
 
 // Where a part lies: in the spare strip or in the stripe, from which byte on, and how many bytes.
-#[derive(Drop)]
+#[derive(Clone, Copy)]
 pub struct Part {
     pub in_spare: bool,
     pub start: usize,

@@ -1,4 +1,6 @@
 // Cheaper sets of survivors by swaps: a wanted symbol's set is XORed with an equation among the survivors where that lowers the sum of the charges.
+#![tactic(auto)]
+
 ghost use Rattle.std.specs.Prelude.{◌≡◌, ◌≤◌};
 ghost use Rattle.bits.specs.BitSets.{has};
 ghost use Rattle.bits.specs.Lists.{first_from};
@@ -19,14 +21,14 @@ use solve::SetList;
 pub const MOST_SWAPS: usize = 1024;
 
 // A swap: the wanted symbol whose set takes an equation in; or none.
-#[derive(Drop)]
+#[derive(Clone, Copy)]
 enum Swap {
     Of { target: usize, equation: usize },
     Nothing,
 }
 
 // Where swaps have led: the sets of the wanted symbols, what reading them costs, how many swaps were made, and whether no single one lowers the sum any more.
-#[derive(Drop)]
+#[derive(Clone, Copy)]
 pub struct Settling {
     pub sets: BitSets,
     pub cost: f64,

@@ -1,5 +1,7 @@
 // The bytes of one symbol of a lent stripe in one pass: cleared, taken from a symbol, or added to, and then the sources added.
 // Any of them may be the target: each byte is summed before it is stored.
+#![tactic(auto)]
+
 ghost use Rattle.std.specs.Prelude.{◌≡◌, ◌+◌, ◌*◌, ◌≤◌, ◌<◌, length, get_or, replicate};
 ghost use Rattle.gf2.specs.Stripes.{symbol, SymbolWithin, xor_bytes, put_symbol};
 ghost use Rattle.passes.specs.InnerSources.{listed};

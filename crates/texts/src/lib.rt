@@ -1,10 +1,12 @@
 // Text that is built up piece by piece, by value.
+#![tactic(auto)]
+
 ghost use Rattle.std.specs.Prelude.{◌≡◌, [], ◌∷◌, ◌+◌, length};
 ghost use Rattle.texts.specs.Decimals.{decimal, labelled};
 ghost use Rattle.texts.specs.InnerTexts.{HasRoom, Extended};
 
 // A buffer, and how many of its bytes are text.
-#[derive(Drop)]
+#[derive(Clone, Copy)]
 pub struct Text {
     pub bytes: [u8; 160],
     pub len: usize,

@@ -16,6 +16,8 @@
 //   call 8, test survivors: number of asked disks, L, stripe length, stripe seed, data length (0: no data is encoded first), data seed,
 //     start and end of a part that is ruined, its seed (below 256: that byte throughout), the same of a second part, code sheet length;
 //     the asked disks, the code sheet
+#![tactic(auto)]
+
 ghost use Rattle.std.specs.Prelude.{◌≡◌, ◌≤◌, ◌<◌, length};
 ghost use Rattle.bits.specs.Numerals.{set_width};
 ghost use Rattle.codes.specs.Codes.{linear, WithinLimits};

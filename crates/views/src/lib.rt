@@ -1,5 +1,7 @@
 // Look up: a part of one of the caller's own slices, and the twin call that says why there is none. One strip stands in `strips`, and is
 // passed on.
+#![tactic(auto)]
+
 ghost use Rattle.std.specs.Prelude.{◌≡◌, ◌≤◌, ◌<◌, length};
 ghost use Rattle.refusals.specs.Orders.{Fine, outcome, and_then};
 ghost use Rattle.strips.specs.Places.{slice_of, Shows, beginning};
