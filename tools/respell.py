@@ -100,10 +100,28 @@ APART = [
 
 def keep_apart():
     for path, old, new in APART:
+        if not os.path.exists(path):
+            continue
         with open(path, encoding="utf-8") as it:
             text = it.read()
         with open(path, "w", encoding="utf-8") as it:
             it.write(re.sub(old, new, text))
+
+
+# What port.py or a type's name within left in two spellings.
+MIXED = {w: w.replace("-", "_") if w == "L-positive" else w.replace("-", "_").lower() for w in (
+    "is_Known", "not_Chosen", "x_Fits", "Reads-Known", "L-positive", "parity_row_of_Q", "parity_row_of_P", "entry_of_of_Q", "entry_of_of_P")}
+
+
+def one_spelling():
+    words = re.compile(r"(?<![\w'-])(?:" + "|".join(map(re.escape, MIXED)) + r")(?![\w'-])")
+    for path in ours():
+        with open(path, encoding="utf-8") as it:
+            text = it.read()
+        new = words.sub(lambda m: MIXED[m.group(0)], text)
+        if new != text:
+            with open(path, "w", encoding="utf-8") as it:
+                it.write(new)
 
 
 ANTT = re.compile(r"(?:^|\s)--(?=\s|$)")
@@ -113,6 +131,7 @@ RUST = re.compile(r"//")
 def main(argv):
     if "--dry" not in argv:
         keep_apart()
+        one_spelling()
     library, own = library_words(), declared() - {"append-nil", "or-false"}  # locals of ours; the library's where they are imported
     table, both = {}, set()
     seen = collections.defaultdict(set)

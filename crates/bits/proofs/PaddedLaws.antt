@@ -55,9 +55,9 @@ module _ (list : List ℕ) where
         stored_chosen is_chosen e = stored_more (e ∙ sym (chosen ∙ ap (λ (c : Bool). cond c value 0) is_chosen))
 
         pub stored_passed : test ≡ false → now ≡ stored_to list (i + 1)
-        stored_passed not_Chosen =
+        stored_passed not_chosen =
             overwritten_kept (replicate set_width 0) (padded list) room now i (omega (arith, length_padded)) so_far
-            (get_or_padded i ∙ chosen ∙ ap (λ (c : Bool). cond c value 0) not_Chosen ∙ sym (get_or_zeros_behind [] set_width i))
+            (get_or_padded i ∙ chosen ∙ ap (λ (c : Bool). cond c value 0) not_chosen ∙ sym (get_or_zeros_behind [] set_width i))
 
     -- All stored
     pub stored_all : {now : List ℕ} (i : ℕ) → now ≡ stored_to list i → length list ≤ i → now ≡ padded list

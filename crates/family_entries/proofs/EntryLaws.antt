@@ -22,12 +22,12 @@ entry_made family layout disk row first none e f g =
     ap₂ with g (ap (λ (n : ℕ). n + row) (f ∙ ap (λ (l : Layout). first_symbol l disk) e)) ∙ with_none_unit (first_symbol (family_layout family) disk + row)
 
 -- P takes row i
-pub entry_of_of_P : (family : Family) (parity i c : ℕ) → parity ≡ 0 → entry family c i ≡ entry_of family parity i c
+pub entry_of_of_p : (family : Family) (parity i c : ℕ) → parity ≡ 0 → entry family c i ≡ entry_of family parity i c
 unfolding entry_of
-entry_of_of_P family parity i c e = simp (eq-eqb parity 0 e)
+entry_of_of_p family parity i c e = simp (eq-eqb parity 0 e)
 
 -- Q takes what the family says
-pub entry_of_of_Q : (family known : Family) (parity i c : ℕ) → ¬ (parity ≡ 0) → family ≡ known → q_entry known i c ≡ entry_of family parity i c
+pub entry_of_of_q : (family known : Family) (parity i c : ℕ) → ¬ (parity ≡ 0) → family ≡ known → q_entry known i c ≡ entry_of family parity i c
 unfolding entry_of
-entry_of_of_Q family known parity i c n e =
+entry_of_of_q family known parity i c n e =
     sym (ap (λ (f : Family). q_entry f i c) e) ∙ sym (simp (ne_eqb parity 0 n))

@@ -35,14 +35,14 @@ sum_over_done count reached term sum a b e = let end : reached ≡ count = omega
 -- Parity rows
 
 -- P is the sum over the data disks
-pub parity_row_of_P : (family : Family) (parity i : ℕ) → parity ≡ 0 → data_sum family 0 i ≡ parity_row family parity i
+pub parity_row_of_p : (family : Family) (parity i : ℕ) → parity ≡ 0 → data_sum family 0 i ≡ parity_row family parity i
 unfolding parity_row entry_of
-parity_row_of_P family parity i e = sym (simp (eq-eqb parity 0 e))
+parity_row_of_p family parity i e = sym (simp (eq-eqb parity 0 e))
 
 -- Q is what the family says
-pub parity_row_of_Q : (family known : Family) (parity i : ℕ) → ¬ (parity ≡ 0) → family ≡ known → q_row known i ≡ parity_row family parity i
+pub parity_row_of_q : (family known : Family) (parity i : ℕ) → ¬ (parity ≡ 0) → family ≡ known → q_row known i ≡ parity_row family parity i
 unfolding parity_row
-parity_row_of_Q family known parity i n e =
+parity_row_of_q family known parity i n e =
     sym (ap (λ (f : Family). q_row f i) e) ∙ sym (simp (ne_eqb parity 0 n))
 
 -- Liberation's is the sum over the data disks

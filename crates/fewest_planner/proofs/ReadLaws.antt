@@ -40,7 +40,7 @@ Keeps writable steps known kept = (s : ℕ) → known s ≡ true → (read_by_an
 keeps_later : (writable : ℕ → Bool) (p : Step) (steps : List Step) (known kept : ℕ → Bool) → Keeps writable (p ∷ steps) known kept
     → Keeps writable steps (extend known (target p)) (extend kept (target p))
 unfolding read_by_any
-keeps_later writable p steps known kept keeps s is_Known used = by_place (eqb s (target p)) is_Known
+keeps_later writable p steps known kept keeps s is_known used = by_place (eqb s (target p)) is_known
   where
     more_used : (a b c : Bool) → (b || c) ≡ true → ((a || b) || c) ≡ true
     more_used true b c h = refl
@@ -85,11 +85,11 @@ reads_enough rows known wanted steps lost accepted pattern even t is_wanted = pa
     read s = known s && read_by_any s steps
 
     keeps : Keeps wanted steps known read
-    keeps s is_Known used = by_use (wanted s) refl used
+    keeps s is_known used = by_use (wanted s) refl used
       where
         by_use : (c : Bool) → wanted s ≡ c → (read_by_any s steps || c) ≡ true → (known s && read_by_any s steps) ≡ true
-        by_use true e h = absurd (true≢false (sym is_Known ∙ lost s e))
-        by_use false e h = and_true_if_both (known s) (read_by_any s steps) is_Known (bool_cases (λ c. (c || false) ≡ true → c ≡ true) (λ q. refl) (λ q. q) (read_by_any s steps) h)
+        by_use true e h = absurd (true≢false (sym is_known ∙ lost s e))
+        by_use false e h = and_true_if_both (known s) (read_by_any s steps) is_known (bool_cases (λ c. (c || false) ≡ true → c ≡ true) (λ q. refl) (λ q. q) (read_by_any s steps) h)
 
     by_reads : Accepted rows wanted read wanted steps
     by_reads =

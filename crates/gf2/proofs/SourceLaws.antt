@@ -10,7 +10,7 @@ use lib.Dec.{eqb, leb, leb-zero}
 use borrow.Author.Tests.{le-leb, lt-leb, leb-true, eqb-true, eqb-false}
 use Rattle.bits.specs.BitSets.{has}
 use Rattle.gf2.specs.InnerSubsetPlans.{add_all, fill_from}
-use Rattle.gf2.specs.Plans.{target, reads, read_by_any, NoneOntoItself, UsesOnlyKnown, next}
+use Rattle.gf2.specs.Plans.{target, reads, read_by_any, NoneOntoItself, UsesOnlyKnown, done, next}
 use Rattle.gf2.specs.declared.Step.{Step}
 use Rattle.gf2.specs.declared.Step.TheVariants.{Copy, Add}
 use Rattle.bits.proofs.Booleans.{bool_cases, or_true_if_left, or_true_if_right}
@@ -27,13 +27,14 @@ read_by_any_append s (p ∷ xs) ys =
 pub none_onto_itself : {writable filled : ℕ → Bool} {steps : List Step} → UsesOnlyKnown writable filled steps → (known : ℕ → Bool)
     → ((s : ℕ) → writable s ≡ true → known s ≡ false) → ((s : ℕ) → read_by_any s steps ≡ true → known s ≡ true) → NoneOntoItself steps
 unfolding read_by_any
-none_onto_itself (next {p = first} {ps = rest} may_write_lem is_ready uses) known writes_lost Reads-Known p (Memᴰ.head same) =
+none_onto_itself done known writes_lost reads_known p there = elim there [ ]
+none_onto_itself (next {p = first} {ps = rest} may_write_lem is_ready uses) known writes_lost reads_known p (Memᴰ.head same) =
     rw same
     (bool_cases (λ c. reads (target first) first ≡ c → c ≡ false)
-    (λ own. absurd (true≢false (sym (Reads-Known (target first) (or_true_if_left (reads (target first) first) _ own)) ∙ writes_lost (target first) may_write_lem)))
+    (λ own. absurd (true≢false (sym (reads_known (target first) (or_true_if_left (reads (target first) first) _ own)) ∙ writes_lost (target first) may_write_lem)))
     (λ apart. refl) (reads (target first) first) refl)
-none_onto_itself (next {p = first} {ps = rest} may_write_lem is_ready uses) known writes_lost Reads-Known p (Memᴰ.tail m) =
-    none_onto_itself uses known writes_lost (λ s read. Reads-Known s (or_true_if_right (reads s first) (read_by_any s rest) read)) p m
+none_onto_itself (next {p = first} {ps = rest} may_write_lem is_ready uses) known writes_lost reads_known p (Memᴰ.tail m) =
+    none_onto_itself uses known writes_lost (λ s read. reads_known s (or_true_if_right (reads s first) (read_by_any s rest) read)) p m
 
 -- ------------------------------------------------------------------
 -- The steps for one target

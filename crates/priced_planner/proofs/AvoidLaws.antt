@@ -50,8 +50,8 @@ uses_only_others done other reads_stay writes_stay = done
 uses_only_others {writable} {known} (next {p = p} {ps = ps} may_write_lem is_ready later) other reads_stay writes_stay =
     next may_write_lem (by_step p may_write_lem is_ready (λ s h. reads_stay s h))
     (uses_only_others later (extend other (target p))
-    (λ s h read. extended known other (target p) s (λ is_Known. reads_stay s is_Known (or_true_if_right (reads s p) (read_by_any s ps) read)) h)
-    (λ s h writes. extended known other (target p) s (λ is_Known. writes_stay s is_Known writes) h))
+    (λ s h read. extended known other (target p) s (λ is_known. reads_stay s is_known (or_true_if_right (reads s p) (read_by_any s ps) read)) h)
+    (λ s h writes. extended known other (target p) s (λ is_known. writes_stay s is_known writes) h))
   where
     itself : (s : ℕ) → eqb s s ≡ true
     itself s = eq-eqb s s refl
@@ -78,7 +78,7 @@ accepted_others : {rows : List ℕ} {wanted known : ℕ → Bool} {steps : List 
 accepted_others {wanted = wanted} {known = known} {steps = steps} accepted other reads_stay wanted_stays =
     record {
       uses_only_known = uses_only_others accepted.uses_only_known other reads_stay wanted_stays;
-      filled = λ t is_wanted. filled_others steps known other t (λ is_Known. wanted_stays t is_Known is_wanted) (accepted.filled t is_wanted);
+      filled = λ t is_wanted. filled_others steps known other t (λ is_known. wanted_stays t is_known is_wanted) (accepted.filled t is_wanted);
       right = accepted.right;
     }
 
@@ -131,8 +131,8 @@ module _ (code : LinearCode) (asked : Asked) {room : ℕ} (workable : Workable c
       (subst (λ (set : ℕ → Bool). Accepted (matrix code) set (survives code.layout asked.disks) set (steps_of plan)) (fun_ext accepted.wants_exactly)
       (accepted_if_fine code workable.within asked.disks plan accepted.rules_kept))
       (survives code.layout disks) reads_survive
-      (λ s is_Known is_wanted.
-      absurd (true≢false (sym is_Known ∙ lost_means_not_surviving code.layout asked.disks s (asked_is_lost code asked workable s is_wanted)))))
+      (λ s is_known is_wanted.
+      absurd (true≢false (sym is_known ∙ lost_means_not_surviving code.layout asked.disks s (asked_is_lost code asked workable s is_wanted)))))
 
   -- It would be accepted for them
   pub plan_for_accepted : WouldBeAccepted code (listed_on_set disks list) plan_for

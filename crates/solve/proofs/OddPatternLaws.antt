@@ -146,6 +146,6 @@ module _ (data_symbols : ℕ) (known : ℕ → Bool) (rows targets : List ℕ) w
             pivot_below data_symbols left row
             (remaining_below data_symbols (unit_patterns data_symbols) (survivors known rows)
             (starts_with_units_below data_symbols (unit_patterns data_symbols) (unit_patterns_start data_symbols)));
-        even_on_known = λ s is_Known. pivot_even_if_all_even left row (get_or rows s 0) (remaining_even_on_known (unit_patterns data_symbols) known rows s is_Known);
+        even_on_known = λ s is_known. pivot_even_if_all_even left row (get_or rows s 0) (remaining_even_on_known (unit_patterns data_symbols) known rows s is_known);
         odd_there = odd_if_pivot left row (λ none. found (target.pivot ∙ none));
       })

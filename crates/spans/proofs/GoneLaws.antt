@@ -125,13 +125,13 @@ module _ (data_symbols : ℕ) (rows : List ℕ) (rows_below : Below data_symbols
     -- A pattern that is even on every known row is zero on every survivor
     pub zero_on_known : (pattern : ℕ) → ((s : ℕ) → known s ≡ true → overlap pattern (get_or rows s 0) ≡ 0) → (L : ℕ)
         → SameSymbols L known (pattern_stripe L data_symbols rows pattern) (zero_stripe L (length rows))
-    zero_on_known pattern even L s is_Known =
-        symbol_pattern_stripe L data_symbols rows pattern s rows_below (known_below s is_Known)
-        ∙ ap (replicate L) (even s is_Known)
-        ∙ sym (symbol_zero_stripe L (length rows) s (known_below s is_Known))
+    zero_on_known pattern even L s is_known =
+        symbol_pattern_stripe L data_symbols rows pattern s rows_below (known_below s is_known)
+        ∙ ap (replicate L) (even s is_known)
+        ∙ sym (symbol_zero_stripe L (length rows) s (known_below s is_known))
 
     known_row : (s : ℕ) → known s ≡ true → get_or (survivors known rows) s 0 ≡ get_or rows s 0
-    known_row s is_Known = get_or_survivors known rows s ∙ ap (λ (c : Bool). cond c (get_or rows s 0) 0) is_Known
+    known_row s is_known = get_or_survivors known rows s ∙ ap (λ (c : Bool). cond c (get_or rows s 0) 0) is_known
 
     -- What is even on each known row is even on each surviving one
     even_on_surviving : (x : ℕ) → ((s : ℕ) → known s ≡ true → overlap x (get_or rows s 0) ≡ 0) → (j : ℕ) → overlap x (get_or (survivors known rows) j 0) ≡ 0
@@ -185,15 +185,15 @@ module _ (data_symbols : ℕ) (rows : List ℕ) (rows_below : Below data_symbols
           zero_on_survivors =
               λ i h.
               zero_on_known (get_or lost i 0)
-              (λ s is_Known. ap (overlap (get_or lost i 0)) (sym (known_row s is_Known)) ∙ lost_even_on_surviving patterns surviving (survivors wanted rows) i s);
+              (λ s is_known. ap (overlap (get_or lost i 0)) (sym (known_row s is_known)) ∙ lost_even_on_surviving patterns surviving (survivors wanted rows) i s);
           exactly_one =
               λ x y x_valid y_valid agree.
               let a = given_by data_symbols rows x x_valid in
               let b = given_by data_symbols rows y y_valid in
               let even : (s : ℕ) → known s ≡ true → overlap (bit_xor a.pattern b.pattern) (get_or rows s 0) ≡ 0 =
-              λ s is_Known.
-              sym (difference_is_overlap s (known_below s is_Known) a.pattern b.pattern a.gives b.gives)
-              ∙ ap (λ (v : ℕ). bit_xor v (get_or y s 0)) (agree s is_Known)
+              λ s is_known.
+              sym (difference_is_overlap s (known_below s is_known) a.pattern b.pattern a.gives b.gives)
+              ∙ ap (λ (v : ℕ). bit_xor v (get_or y s 0)) (agree s is_known)
               ∙ xor_self (get_or y s 0) in
               differ_by_one lost a.pattern b.pattern
               (one_subset_of_lost data_symbols patterns start surviving (survivors wanted rows) (bit_xor a.pattern b.pattern)
@@ -226,11 +226,11 @@ module _ (data_symbols : ℕ) (rows : List ℕ) (rows_below : Below data_symbols
         }
       where
         same_symbols : (x y : List ℕ) → length x ≡ length rows * 1 → length y ≡ length rows * 1 → AgreeOn known x y → SameSymbols 1 known x y
-        same_symbols x y x_length y_length agree s is_Known =
-            symbols_equal_if_bytes_equal 1 x y s s (symbol_fits 1 (length rows) x s x_length (known_below s is_Known)) (symbol_fits 1 (length rows) y s y_length (known_below s is_Known))
+        same_symbols x y x_length y_length agree s is_known =
+            symbols_equal_if_bytes_equal 1 x y s s (symbol_fits 1 (length rows) x s x_length (known_below s is_known)) (symbol_fits 1 (length rows) y s y_length (known_below s is_known))
             (λ i h.
             let position : s * 1 + i ≡ s = omega arith in
-            ap (λ (n : ℕ). get_or x n 0) position ∙ agree s is_Known ∙ ap (λ (n : ℕ). get_or y n 0) (sym position))
+            ap (λ (n : ℕ). get_or x n 0) position ∙ agree s is_known ∙ ap (λ (n : ℕ). get_or y n 0) (sym position))
 
     -- Where a pattern is even on every known row and odd on a wanted one, something is
     pub something_gone_if_odd : (pattern : ℕ) → ((s : ℕ) → known s ≡ true → overlap pattern (get_or rows s 0) ≡ 0) → (t : ℕ) → wanted t ≡ true
@@ -241,7 +241,7 @@ module _ (data_symbols : ℕ) (rows : List ℕ) (rows_below : Below data_symbols
         let y = pattern_stripe 1 data_symbols rows 0 in
         let one =
         gone.exactly_one x y (pattern_stripe_valid_bits data_symbols rows pattern) (pattern_stripe_valid_bits data_symbols rows 0)
-        (λ s is_Known. image_is_overlap s (known_below s is_Known) pattern ∙ even s is_Known ∙ sym (image_is_overlap s (known_below s is_Known) 0 ∙ overlap_zero_left (get_or rows s 0))) in
+        (λ s is_known. image_is_overlap s (known_below s is_known) pattern ∙ even s is_known ∙ sym (image_is_overlap s (known_below s is_known) 0 ∙ overlap_zero_left (get_or rows s 0))) in
         let differ : bit_xor (get_or x t 0) (get_or y t 0) ≡ 0 = one.differ t is_wanted in
         let odd_there : bit_xor (get_or x t 0) (get_or y t 0) ≡ 1 =
         ap₂ bit_xor (image_is_overlap t (wanted_below t is_wanted) pattern ∙ odd) (image_is_overlap t (wanted_below t is_wanted) 0 ∙ overlap_zero_left (get_or rows t 0)) in
@@ -273,7 +273,7 @@ module _ (data_symbols : ℕ) (rows : List ℕ) (rows_below : Below data_symbols
 
         one : DifferByOne data_symbols rows wanted patterns zero_stripe zero_stripe
         one =
-            gone.exactly_one zero_stripe zero_stripe (pattern_stripe_valid_bits data_symbols rows 0) (pattern_stripe_valid_bits data_symbols rows 0) (λ s is_Known. refl)
+            gone.exactly_one zero_stripe zero_stripe (pattern_stripe_valid_bits data_symbols rows 0) (pattern_stripe_valid_bits data_symbols rows 0) (λ s is_known. refl)
 
         four_subsets : 4 ≤ 2 ^ length patterns
         four_subsets = omega (arith, pow-suc 2 (suc (length more)), pow-suc 2 (length more), pow_pos (length more))

@@ -98,14 +98,14 @@ module _ (L data_symbols : ℕ) (rows : List ℕ) (known : ℕ → Bool) (known_
             contents = (from h).contents;
             counted = (from h).contents_length;
             bytes = (from h).contents_bytes;
-            gives = λ s is_Known q. (from h).gives s is_Known ∙ get_or_column L (length rows) x i s (known_below s is_Known);
+            gives = λ s is_known q. (from h).gives s is_known ∙ get_or_column L (length rows) x i s (known_below s is_known);
           }
       by_side (no h) =
           record {
             contents = replicate data_symbols 0;
             counted = length-replicate data_symbols 0;
             bytes = replicate_bytes data_symbols 0 (omega arith);
-            gives = λ s is_Known q. absurd (omega arith);
+            gives = λ s is_known q. absurd (omega arith);
           }
 
   module _ (all : (i : ℕ) → ColumnData i) where
@@ -116,8 +116,8 @@ module _ (L data_symbols : ℕ) (rows : List ℕ) (known : ℕ → Bool) (known_
     made_valid = joined_valid L data_symbols (λ i. (all i).contents) rows (λ i. (all i).counted) (λ i. (all i).bytes)
 
     made_agrees : (s i : ℕ) → known s ≡ true → i < L → get_or made (s * L + i) 0 ≡ get_or x (s * L + i) 0
-    made_agrees s i is_Known h =
-        byte_of_joined L data_symbols (λ c. (all c).contents) rows (λ c. (all c).counted) (λ c. (all c).bytes) s i (known_below s is_Known) h ∙ (all i).gives s is_Known h
+    made_agrees s i is_known h =
+        byte_of_joined L data_symbols (λ c. (all c).contents) rows (λ c. (all c).counted) (λ c. (all c).bytes) s i (known_below s is_known) h ∙ (all i).gives s is_known h
 
   -- Where each column's known symbols come from data, some valid stripe agrees
   agrees_if_from_data : ((i : ℕ) → i < L → ComeFromData data_symbols rows known (column_of i)) → SomeValidAgrees L data_symbols rows known x
@@ -126,11 +126,11 @@ module _ (L data_symbols : ℕ) (rows : List ℕ) (known : ℕ → Bool) (known_
         stripe = made all;
         valid = made_valid all;
         agrees =
-            λ s is_Known.
+            λ s is_known.
             symbols_equal_if_bytes_equal L (made all) x s s
-            (symbol_fits L (length rows) (made all) s (length_valid L data_symbols rows (made all) (made_valid all)) (known_below s is_Known))
-            (symbol_fits L (length rows) x s x_length (known_below s is_Known))
-            (λ i h. made_agrees all s i is_Known h);
+            (symbol_fits L (length rows) (made all) s (length_valid L data_symbols rows (made all) (made_valid all)) (known_below s is_known))
+            (symbol_fits L (length rows) x s x_length (known_below s is_known))
+            (λ i h. made_agrees all s i is_known h);
       }
     where
       all : (i : ℕ) → ColumnData i
@@ -143,10 +143,10 @@ module _ (L data_symbols : ℕ) (rows : List ℕ) (known : ℕ → Bool) (known_
         stripe = encoding L data_symbols rows (joined L data_symbols (λ c. from.contents));
         valid = joined_valid L data_symbols (λ c. from.contents) rows (λ c. from.contents_length) (λ c. from.contents_bytes);
         agrees =
-            λ s is_Known.
-            byte_of_joined L data_symbols (λ c. from.contents) rows (λ c. from.contents_length) (λ c. from.contents_bytes) s i (known_below s is_Known) h
-            ∙ from.gives s is_Known
-            ∙ get_or_column L (length rows) x i s (known_below s is_Known);
+            λ s is_known.
+            byte_of_joined L data_symbols (λ c. from.contents) rows (λ c. from.contents_length) (λ c. from.contents_bytes) s i (known_below s is_known) h
+            ∙ from.gives s is_known
+            ∙ get_or_column L (length rows) x i s (known_below s is_known);
       }
 
   -- Where a valid stripe agrees in a column, its known symbols come from data
@@ -158,20 +158,20 @@ module _ (L data_symbols : ℕ) (rows : List ℕ) (known : ℕ → Bool) (known_
         contents_length = length_column L data_symbols valid.contents i;
         contents_bytes = column_bytes L data_symbols valid.contents valid.contents_bytes i;
         gives =
-            λ s is_Known.
-            let s-below = known_below s is_Known in
+            λ s is_known.
+            let s-below = known_below s is_known in
             sym (get_or_map_linear (select_linear (column L data_symbols valid.contents i)) rows s)
             ∙ ap (λ (l : List ℕ). get_or l s 0)
             (sym (ap (λ (y : List ℕ). column L (length rows) y i) valid.gives ∙ column_encoding L data_symbols rows valid.contents i valid.contents_length h))
             ∙ get_or_column L (length rows) some.stripe i s s-below
-            ∙ some.agrees s is_Known
+            ∙ some.agrees s is_known
             ∙ sym (get_or_column L (length rows) x i s s-below);
       }
 
   -- A stripe that agrees on every known byte agrees in each column
   column_agrees_if_all : SomeValidAgrees L data_symbols rows known x → (i : ℕ) → i < L → SomeAgreesInColumn L data_symbols rows known x i
   column_agrees_if_all some i h =
-      record { stripe = some.stripe; valid = some.valid; agrees = λ s is_Known. bytes_equal_if_symbols_equal L some.stripe x s s i h (some.agrees s is_Known) }
+      record { stripe = some.stripe; valid = some.valid; agrees = λ s is_known. bytes_equal_if_symbols_equal L some.stripe x s s i h (some.agrees s is_known) }
 
   -- ------------------------------------------------------------------
   -- By equations

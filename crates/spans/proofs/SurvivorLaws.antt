@@ -95,21 +95,21 @@ module _ (data_symbols : ℕ) (patterns : List ℕ) (start : StartsWithUnits dat
 
   -- The known values, and 0 for the others, are the values at every known place
   survivors_agree : (values : List ℕ) → AgreeOn known (survivors known values) values
-  survivors_agree values s is_Known = get_or_survivors known values s ∙ ap (λ (c : Bool). cond c (get_or values s 0) 0) is_Known
+  survivors_agree values s is_known = get_or_survivors known values s ∙ ap (λ (c : Bool). cond c (get_or values s 0) 0) is_known
 
   -- A known row's equation is a set of known symbols
   equation_among_known : (j : ℕ) → known j ≡ true → Within (has (equation_of patterns surviving j)) known
-  equation_among_known j is_Known s chosen = by_unit (has (2 ^ j) s) refl (sym (has_sum (back_substitute found surviving (get_or surviving j 0)) (2 ^ j) s) ∙ chosen)
+  equation_among_known j is_known s chosen = by_unit (has (2 ^ j) s) refl (sym (has_sum (back_substitute found surviving (get_or surviving j 0)) (2 ^ j) s) ∙ chosen)
     where
       by_unit : (own : Bool) → has (2 ^ j) s ≡ own
           → cond own (not (has (back_substitute found surviving (get_or surviving j 0)) s)) (has (back_substitute found surviving (get_or surviving j 0)) s) ≡ true → known s ≡ true
-      by_unit true q e = ap known (eqb-true s j (sym (has_unit j s) ∙ q)) ∙ is_Known
+      by_unit true q e = ap known (eqb-true s j (sym (has_unit j s) ∙ q)) ∙ is_known
       by_unit false q e = subset_for_all_known patterns known rows (get_or surviving j 0) s e
 
   -- and its rows sum to zero
   equation_of_known_rows : (j : ℕ) → known j ≡ true → select rows (equation_of patterns surviving j) ≡ 0
-  equation_of_known_rows j is_Known =
-      sym (select_agrees known surviving rows (survivors_agree rows) (equation_of patterns surviving j) (equation_among_known j is_Known))
+  equation_of_known_rows j is_known =
+      sym (select_agrees known surviving rows (survivors_agree rows) (equation_of patterns surviving j) (equation_among_known j is_known))
       ∙ equation_sums_to_zero data_symbols patterns start surviving (survivors_below data_symbols known rows rows_below) j
 
   -- What holds of the empty set and of each known row's equation holds of every row's entry
@@ -128,9 +128,9 @@ module _ (data_symbols : ℕ) (patterns : List ℕ) (start : StartsWithUnits dat
 
   -- The equation of a known row without a pivot is its entry
   entry_of_chosen : (j : ℕ) → known j ≡ true → eqb (get_or found j 0) 0 ≡ true → get_or (row_equations found surviving (length rows) chosen) j 0 ≡ equation_of patterns surviving j
-  entry_of_chosen j is_Known no_pivot =
-      get_d_tabulate (length rows) (λ k. cond (chosen k) (equation_of patterns surviving k) 0) j (known_below j is_Known)
-      ∙ ap (λ (c : Bool). cond c (equation_of patterns surviving j) 0) (and_true_if_both (known j) (eqb (get_or found j 0) 0) is_Known no_pivot)
+  entry_of_chosen j is_known no_pivot =
+      get_d_tabulate (length rows) (λ k. cond (chosen k) (equation_of patterns surviving k) 0) j (known_below j is_known)
+      ∙ ap (λ (c : Bool). cond c (equation_of patterns surviving j) 0) (and_true_if_both (known j) (eqb (get_or found j 0) 0) is_known no_pivot)
 
   -- The equation of a row that is not known is its place alone
   equation_of_unknown : (j : ℕ) → known j ≡ false → equation_of patterns surviving j ≡ 2 ^ j
@@ -143,7 +143,7 @@ module _ (data_symbols : ℕ) (patterns : List ℕ) (start : StartsWithUnits dat
       → select values equation ≡ 0
   meets_if_from_data values from equation among zero_sum =
       let linear = select_linear from.contents in
-      select_agrees known values (map (select from.contents) rows) (λ s is_Known. sym (get_or_map_linear linear rows s ∙ from.gives s is_Known)) equation among
+      select_agrees known values (map (select from.contents) rows) (λ s is_known. sym (get_or_map_linear linear rows s ∙ from.gives s is_known)) equation among
       ∙ equation_meets_made linear rows equation zero_sum
 
   -- Bytes that meet them come from data
@@ -155,19 +155,19 @@ module _ (data_symbols : ℕ) (patterns : List ℕ) (start : StartsWithUnits dat
         contents_bytes =
             λ i. subst (λ (x : ℕ). x < 256) (sym (get_or_map_linear made.linear (units data_symbols) i)) (made.keeps_width 8 (survivors_below 8 known values bytes) (get_or (units data_symbols) i 0));
         gives =
-            λ s is_Known.
+            λ s is_known.
             linear_is_encoding data_symbols made.linear (get_or rows s 0) (rows_below s)
-            ∙ ap made.map_is (sym (survivors_agree rows s is_Known))
+            ∙ ap made.map_is (sym (survivors_agree rows s is_known))
             ∙ made.makes s
-            ∙ survivors_agree values s is_Known;
+            ∙ survivors_agree values s is_known;
       }
     where
       all_met : (j : ℕ) → select values (get_or (row_equations found surviving (length rows) chosen) j 0) ≡ 0
       all_met = all_if_nonempty (λ e. select values e ≡ 0) (row_equations found surviving (length rows) chosen) (select_linear values).of_zero met
 
       by_pivot : (j : ℕ) → known j ≡ true → (c : Bool) → eqb (get_or found j 0) 0 ≡ c → select values (equation_of patterns surviving j) ≡ 0
-      by_pivot j is_Known true none = ap (select values) (sym (entry_of_chosen j is_Known none)) ∙ all_met j
-      by_pivot j is_Known false some =
+      by_pivot j is_known true none = ap (select values) (sym (entry_of_chosen j is_known none)) ∙ all_met j
+      by_pivot j is_known false some =
           ap (select values) (equation_empty_if_pivot patterns surviving j (eqb-false (get_or found j 0) 0 some)) ∙ (select_linear values).of_zero
 
       by_known : (j : ℕ) (c : Bool) → known j ≡ c → select (survivors known values) (equation_of patterns surviving j) ≡ 0

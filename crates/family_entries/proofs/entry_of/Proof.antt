@@ -3,7 +3,7 @@ use mathlib.Core.Path.{refl, sym, ap, ◌∙◌}
 use native.Mathlib.Omega.{arith}
 use Rattle.family_codes.specs.Families.{listed, data_disks, family_height}
 use Rattle.family_codes.proofs.FamilyLaws.{row_diagonal_bounds, even_odd_bounds}
-use Rattle.family_entries.proofs.EntryLaws.{entry_of_of_P, entry_of_of_Q}
+use Rattle.family_entries.proofs.EntryLaws.{entry_of_of_p, entry_of_of_q}
 use borrow.Author.Rules.{rules}
 use Rattle.family_entries.proofs.entry_of.Statement.{statement}
 use Rattle.family_entries.proofs.entry_of.Tie as tie
@@ -16,7 +16,7 @@ identity_row_requires c κs =
 returns : tie.Need-returns
 returns c =
     let a = c.before.before.args in
-    c.identity_row.ensures ∙ entry_of_of_P a.family a.parity a.row a.disk c.before.if1.true
+    c.identity_row.ensures ∙ entry_of_of_p a.family a.parity a.row a.disk c.before.if1.true
 
 enum_told : tie.Need-enum_told
 enum_told c = search rules
@@ -63,25 +63,25 @@ returns_2 : tie.Need-returns_2
 returns_2 c =
     let a = c.before.before.before.before.args in
     c.empty.ensures
-    ∙ entry_of_of_Q a.family _ a.parity a.row a.disk c.before.before.before.if1.false c.before.enum_told.given.1
+    ∙ entry_of_of_q a.family _ a.parity a.row a.disk c.before.before.before.if1.false c.before.enum_told.given.1
 
 returns_3 : tie.Need-returns_3
 returns_3 c =
     let a = c.before.before.before.before.before.args in
     c.liberation_entry.ensures
-    ∙ entry_of_of_Q a.family _ a.parity a.row a.disk c.before.before.before.before.if1.false c.before.before.family.given.1
+    ∙ entry_of_of_q a.family _ a.parity a.row a.disk c.before.before.before.before.if1.false c.before.before.family.given.1
 
 returns_4 : tie.Need-returns_4
 returns_4 c =
     let a = c.before.before.before.before.before.args in
     c.diagonal_entry.ensures
-    ∙ entry_of_of_Q a.family _ a.parity a.row a.disk c.before.before.before.before.if1.false c.before.before.family2.given.1
+    ∙ entry_of_of_q a.family _ a.parity a.row a.disk c.before.before.before.before.if1.false c.before.before.family2.given.1
 
 returns_5 : tie.Need-returns_5
 returns_5 c =
     let a = c.before.before.before.before.before.args in
     c.diagonal_entry2.ensures
-    ∙ entry_of_of_Q a.family _ a.parity a.row a.disk c.before.before.before.before.if1.false c.before.before.family3.given.1
+    ∙ entry_of_of_q a.family _ a.parity a.row a.disk c.before.before.before.before.if1.false c.before.before.family3.given.1
 
 pub entry_of_spec : {M : Type 1} → statement M
 entry_of_spec =

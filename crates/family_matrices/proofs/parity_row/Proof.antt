@@ -3,7 +3,7 @@ use mathlib.Core.Path.{sym, ap, ◌∙◌}
 use native.Mathlib.Omega.{arith}
 use borrow.Author.Rules.{rules}
 use Rattle.family_codes.specs.Families.{listed, family_height}
-use Rattle.family_matrices.proofs.MatrixLaws.{parity_row_of_P, parity_row_of_Q, q_row_of_liberation}
+use Rattle.family_matrices.proofs.MatrixLaws.{parity_row_of_p, parity_row_of_q, q_row_of_liberation}
 use Rattle.family_matrices.proofs.parity_row.Statement.{statement}
 use Rattle.family_matrices.proofs.parity_row.Tie as tie
 
@@ -13,7 +13,7 @@ data_sum_requires c κs = search rules
 returns : tie.Need-returns
 returns c =
     let a = c.before.before.args in
-    c.data_sum.ensures ∙ parity_row_of_P a.family a.parity a.row c.before.if1.true
+    c.data_sum.ensures ∙ parity_row_of_p a.family a.parity a.row c.before.if1.true
 
 enum_told : tie.Need-enum_told
 enum_told c = search rules
@@ -49,7 +49,7 @@ returns_2 : tie.Need-returns_2
 returns_2 c =
     let a = c.before.before.before.before.args in
     c.empty.ensures
-    ∙ parity_row_of_Q a.family _ a.parity a.row c.before.before.before.if1.false c.before.enum_told.given.1
+    ∙ parity_row_of_q a.family _ a.parity a.row c.before.before.before.if1.false c.before.enum_told.given.1
 
 returns_3 : tie.Need-returns_3
 returns_3 c =
@@ -57,19 +57,19 @@ returns_3 c =
     let e = c.before.enum_told2.given.1 in
     c.data_sum2.ensures
     ∙ q_row_of_liberation a.family _ _ a.row e
-    ∙ parity_row_of_Q a.family _ a.parity a.row c.before.before.before.if1.false e
+    ∙ parity_row_of_q a.family _ a.parity a.row c.before.before.before.if1.false e
 
 returns_4 : tie.Need-returns_4
 returns_4 c =
     let a = c.before.before.before.before.before.args in
     c.row_diagonal_q.ensures
-    ∙ parity_row_of_Q a.family _ a.parity a.row c.before.before.before.before.if1.false c.before.before.family.given.1
+    ∙ parity_row_of_q a.family _ a.parity a.row c.before.before.before.before.if1.false c.before.before.family.given.1
 
 returns_5 : tie.Need-returns_5
 returns_5 c =
     let a = c.before.before.before.before.before.args in
     c.even_odd_q.ensures
-    ∙ parity_row_of_Q a.family _ a.parity a.row c.before.before.before.before.if1.false c.before.before.family2.given.1
+    ∙ parity_row_of_q a.family _ a.parity a.row c.before.before.before.before.if1.false c.before.before.family2.given.1
 
 pub parity_row_spec : {M : Type 1} → statement M
 parity_row_spec =

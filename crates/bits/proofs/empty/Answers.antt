@@ -1,0 +1,8 @@
+-- `bits::empty` meets its contract. Assumes nothing.
+use mathlib.Core.Path.{refl}
+use Rattle.bits.specs.Numerals.{numeral}
+use Rattle.bits.proofs.empty.Goals as goal
+
+pub returns : goal.returns
+unfolding numeral
+returns c = refl

@@ -1,0 +1,11 @@
+-- `sheets::write_list` meets its contract. The invariant: the count is stored and the entries passed are copied behind it. Assumes nothing.
+use mathlib.Core.Path.{◌≡◌}
+use Prim.Native.Nat.{◌+◌, ◌-◌, ◌≤◌}
+use lib.Seq.{paste}
+use Rattle.sheets.proofs.write_list.Given as goal
+
+abbrev pub invariant-loop-i : goal.invariant-loop-i
+invariant-loop-i l = (l.i ≤ l.count) × (l.buffer ≡ paste l.initial.buffer (l.at + 1) l.list l.i)
+
+abbrev pub decreases-loop-i : goal.decreases-loop-i
+decreases-loop-i l = l.count - l.i

@@ -1,0 +1,310 @@
+#!/usr/bin/env python3
+"""convert.py CRATE_DIR NAMES_JSON [FUNC..]: Proof.antt files with a Tie become Invariants.antt and Answers.antt."""
+import json, os, re, sys
+
+def norm(s):
+    return s.replace('_', '-')
+
+ID = r"[A-Za-z_\u0370-\u03ff][\w'\u2080-\u2089\u2032]*(?:-[\w'\u2080-\u2089]+)*"
+TRIVIAL = re.compile(r"^\s*(search\s+rules|omega\s+arith|tt|refl|search\s*\(rules\)|grind\s+arith)\s*$")
+
+def split_decls(text):
+    """List of chunks: each a list of lines; comments stay with what follows."""
+    chunks, cur = [], []
+    for line in text.split('\n'):
+        top = line and not line[0].isspace() and line[0] not in ')]}|'
+        if top:
+            m = re.match(r"((?:abbrev |unfoldable |pub |data |record |opaque )*)([^\s:(){}]+)", line)
+            if line.startswith('--'):
+                if cur and not all(l.startswith('--') for l in cur): chunks.append(cur); cur = []
+                cur.append(line); continue
+            if line.startswith('use ') :
+                if cur and not all(l.startswith('--') for l in cur): chunks.append(cur); cur=[]
+                cur.append(line); chunks.append(cur); cur=[]; continue
+            if line.startswith('unfolding'):
+                cur.append(line); continue
+            name = m.group(2) if m else line
+            have = None
+            for l in cur:
+                if not l.startswith('--') and not l.startswith('unfolding') and l and not l[0].isspace():
+                    mm = re.match(r"(?:abbrev |unfoldable |pub |data |record |opaque )*([^\s:(){}]+)", l)
+                    have = mm.group(1) if mm else None
+                    break
+            if have is not None and have == name and re.match(re.escape(name) + r"(\s|$)", line):
+                cur.append(line); continue
+            if cur and not all(l.startswith('--') for l in cur):
+                chunks.append(cur); cur = []
+            cur.append(line)
+        else:
+            cur.append(line)
+    if cur: chunks.append(cur)
+    return chunks
+
+def head_of(chunk):
+    i = 0
+    while i < len(chunk) and chunk[i].startswith('--'): i += 1
+    return i
+
+class Fn:
+    def __init__(self, names): self.n = names
+
+def fn_params(crate, fn):
+    name = fn.split('/')[-1].lstrip('+')
+    import glob
+    for p in sorted(glob.glob(crate['dir'] + '/src/**/*.rt', recursive=True)):
+        t = open(p, encoding='utf8').read()
+        m = re.search(r"\bfn " + re.escape(name) + r"\s*(?:<[^>]*>)?\(", t)
+        if not m: continue
+        i = m.end(); depth = 1; j = i
+        while depth and j < len(t):
+            if t[j] in '([{<': depth += 1
+            elif t[j] in ')]}>' and t[j-1] != '-': depth -= 1
+            j += 1
+        inside = t[i:j-1]
+        parts, cur, d = [], '', 0
+        for ch in inside:
+            if ch in '([{<': d += 1
+            elif ch in ')]}>': d -= 1
+            if ch == ',' and d == 0: parts.append(cur); cur = ''
+            else: cur += ch
+        if cur.strip(): parts.append(cur)
+        return [re.sub(r"^(mut |&mut |&)", "", q.split(':')[0].strip()) for q in parts]
+    return []
+
+def map_paths(body, n, stats, params=()):
+    steps = {}
+    for old, _, (o, new), callee, _ in n['places']:
+        if o: steps.setdefault(norm(o), set()).add(new)
+    for loop, _vars in n['loops']:
+        steps.setdefault(norm(loop[0]), set()).add(loop[1])
+    argmap = {}
+    for a in n['args']:
+        if isinstance(a, list) and len(a) == 2 and a[0].startswith('.args .'): argmap[a[0][7:]] = a[1][7:]
+    body = re.sub(r"(?:\.before)+\b(?![-\w])", "", body)
+    def field(m):
+        f = m.group(2)
+        if f in ('well-formed',): return m.group(1) + '.well_formed'
+        k = norm(f)
+        if k in steps:
+            new = steps[k]
+            if len(new) > 1:
+                stats.append(f"several for {f}: {sorted(new)}")
+            return m.group(1) + '.' + sorted(new)[0]
+        return m.group(0)
+    # fields right after c or after a let-bound alias of c
+    names = ['c']
+    changed = True
+    aliases = set(names)
+    while changed:
+        changed = False
+        for m in re.finditer(r"let\s+(" + ID + r")\s*=\s*(" + ID + r")\s+in", body):
+            if m.group(2) in aliases and m.group(1) not in aliases:
+                aliases.add(m.group(1)); changed = True
+    alt = '|'.join(sorted(map(re.escape, aliases), key=len, reverse=True))
+    body = re.sub(r"(?<![\w'.-])(" + alt + r")\.(" + ID + r")", field, body)
+    for (pn, _, (o, new), callee, _), cl in zip(n['places'], n['clauses']):
+        if cl and cl.get('fields'):
+            fs = cl['fields']
+            body = re.sub(r"(\." + re.escape(new) + r"\.ensures)\.(\d+)", lambda m: m.group(1) + '.' + fs[int(m.group(2))] if int(m.group(2)) < len(fs) else m.group(0), body)
+    def arg(m):
+        return m.group(1) + argmap.get(m.group(2), m.group(2))
+    body = re.sub(r"(\bargs\.)(" + ID + r")", arg, body)
+    return body
+
+def tuple_parts(t):
+    """t is '( .. )' whole: its parts at top level, or None."""
+    t = t.strip()
+    if not t.startswith('('): return None
+    depth, parts, cur = 0, [], ''
+    for i, ch in enumerate(t):
+        if ch in '([{': depth += 1
+        elif ch in ')]}': depth -= 1
+        if depth == 0 and i < len(t) - 1: return None
+        if i == 0 or i == len(t) - 1: continue
+        if ch == ',' and depth == 1:
+            parts.append(cur); cur = ''
+        else: cur += ch
+    if cur.strip(): parts.append(cur)
+    return parts
+
+def as_record(body, fields):
+    b = body.rstrip()
+    if not b.endswith(')'): return None
+    # the last top-level '(' that closes at the end
+    depth = 0
+    for i in range(len(b) - 1, -1, -1):
+        if b[i] in ')]}': depth += 1
+        elif b[i] in '([{': depth -= 1
+        if depth == 0: break
+    before = b[:i]
+    if before.strip() and not re.search(r"\bin\s*$", before): return None
+    parts = tuple_parts(b[i:])
+    if not parts or len(parts) != len(fields): return None
+    return before + 'record { ' + '; '.join(f"{f} = {p.strip()}" for f, p in zip(fields, parts)) + ' }'
+
+def convert(path, crate, n, say):
+    text = open(path, encoding='utf8').read()
+    folder = os.path.dirname(path)
+    fn = os.path.relpath(folder, os.path.join(crate['dir'], 'proofs'))
+    dotted = fn.replace('/', '.')
+    chunks = split_decls(text)
+    uses, comments, inv, ans, helpers = [], [], [], [], []
+    needs = {}
+    for old, new in n['needs']:
+        needs.setdefault(norm(old), new)
+    dropped = 0
+    stats = []
+    tie = None
+    for ch in chunks:
+        for l in ch:
+            m = re.match(r"use (Rattle\.\S+)\.Tie as (\w+)", l)
+            if m: tie = m.group(2)
+    if not tie:
+        return None
+    params = fn_params(crate, fn)
+    # loops
+    loops = {}
+    for (lp, vars_), ch in zip(n['loops'], n['changed']):
+        loops[norm(lp[0])] = (lp[1], vars_, ch)
+    first_comment = None
+    for ch in chunks:
+        i = head_of(ch)
+        com = ch[:i]
+        rest = ch[i:]
+        while rest and not rest[-1].strip(): rest = rest[:-1]
+        if not rest: comments += com; continue
+        line = rest[0]
+        if line.startswith('use '):
+            if first_comment is None and com: first_comment = com
+            elif com: comments += com
+            if re.search(r"\.(Tie|Statement)\b", line): continue
+            uses.append('\n'.join(rest)); continue
+        if first_comment is None and com: first_comment = com; com = []
+        flat = ' '.join(l.strip() for l in rest)
+        m = re.match(r"(abbrev |unfoldable )?(pub )?(" + ID + r")\s*:\s*" + tie + r"\.(invariant|decreases)[-_](\S+)", flat)
+        if m:
+            kind = m.group(4); lname = norm(m.group(5))
+            if lname not in loops:
+                say(f"{fn}: no loop {lname} in {list(loops)}"); continue
+            new, vars_, changed = loops[lname]
+            k = next(j for j, l in enumerate(rest) if j > 0 and re.match(re.escape(m.group(3)) + r"\s", l))
+            unf = [l for l in rest[1:k] if l.startswith('unfolding')]
+            body = '\n'.join(rest[k:])
+            mm = re.match(re.escape(m.group(3)) + r"((?:\s+[^\s=]+)*)\s*=\s*", body)
+            params = mm.group(1).split()
+            body = body[mm.end():]
+            fields = []
+            for v, c in zip(vars_, changed): fields.append(('l.initial.' if c else 'l.') + v)
+            for v, c in zip(vars_, changed):
+                if c: fields.append('l.' + v)
+            if len(fields) != len(params):
+                say(f"{fn}: {kind}-{new}: {len(params)} parameters, {len(fields)} fields {fields} {params}")
+            sub = dict(zip(params, fields))
+            body = re.sub(r"(?<![\w'.-])" + ID, lambda q: sub.get(q.group(0), q.group(0)), body)
+            nm = f"{kind}-{new}"
+            inv.append('\n'.join(com + [f"abbrev pub {nm} : goal.{nm}"] + unf + [f"{nm} l =" + (' ' if not body.startswith('\n') else '') + body]))
+            continue
+        m = re.match(r"(pub )?(" + ID + r")\s*:\s*" + tie + r"\.Need-(\S+)", flat)
+        if m:
+            old = norm(m.group(3))
+            cand = [old, re.sub(r"^overflow-", "", old), re.sub(r"^(array|slice)-", "", old)]
+            new = None
+            for cnd in cand:
+                if cnd in needs: new = needs[cnd]; break
+            if new is None:
+                if any(norm(s) in cand for s in n['settled']) :
+                    dropped += 1; continue
+                say(f"{fn}: no goal for {m.group(3)}"); 
+                new = m.group(3)
+            k = next((j for j, l in enumerate(rest) if j > 0 and re.match(re.escape(m.group(2)) + r"\s", l)), None)
+            if k is None: say(f"{fn}: no clause for {m.group(2)}"); continue
+            unf = [l for l in rest[1:k] if l.startswith('unfolding')]
+            body = '\n'.join(rest[k:])
+            mm = re.match(re.escape(m.group(2)) + r"((?:\s+[^\s=]+)*)\s*=\s*", body)
+            body = body[mm.end():] if mm else body
+            if TRIVIAL.match(body) and (not unf):
+                dropped += 1; continue
+            body = map_paths(body, n, stats, params)
+            if new in n['asked']:
+                r = as_record(body, n['asked'][new])
+                if r is None: say(f"{fn}: {new} asks {n['asked'][new]}")
+                else: body = r
+            gap = ' '
+            if '\n' in body and not body.startswith('let') : gap = ' '
+            if body.startswith('let') or body.startswith('⊎_elim'): gap = '\n    '
+            ans.append('\n'.join(com + [f"pub {new} : goal.{new}"] + unf + [f"{new} c =" + gap + body]))
+            continue
+        if re.match(r"(pub )?\S+_spec\s*:\s*\{M : Type 1\}", flat) or re.match(r"(pub )?\S+[-_]spec\s*:.*statement", flat):
+            continue
+        helpers.append('\n'.join(com + rest)); 
+        ans.append('\n'.join(com + rest))
+    out = {}
+    mod = f"Rattle.{crate['name']}.proofs.{dotted}"
+    def words(txts):
+        return set(re.findall(r"[^\s(){}\[\],;.]+", '\n'.join(txts)))
+    def pick(txts):
+        have = words(txts)
+        res = []
+        for u in uses:
+            m = re.match(r"(use \S+?)\.\{([^}]*)\}(.*)$", u, re.S)
+            if not m:
+                m2 = re.search(r" as (\S+)$", u)
+                last = m2.group(1) if m2 else u.split('.')[-1]
+                if last in have or any(w.startswith(last) for w in have): res.append(u)
+                continue
+            names = [x.strip() for x in m.group(2).split(',') if x.strip()]
+            keep = []
+            for x in names:
+                base = x.split(' as ')[-1]
+                if '◌' in base:
+                    parts = [q for q in base.split('◌') if q]
+                    if all(any(q == w or q in w for w in have) for q in parts): keep.append(x)
+                elif base in have or (base == '[]' and '[]' in '\n'.join(txts)): keep.append(x)
+            if keep: res.append(f"{m.group(1)}.{{{', '.join(keep)}}}{m.group(3)}")
+        return res
+    # helpers used by the invariants go there
+    if inv:
+        moved = []
+        for h in helpers:
+            nm = re.match(r"(?:--[^\n]*\n)*(?:abbrev |unfoldable |pub )*([^\s:(){}]+)", h).group(1)
+            if nm in words(inv): moved.append(h)
+        head = list(first_comment or [])
+        body = moved + inv
+        out['Invariants.antt'] = '\n'.join(head + pick(body) + [f"use {mod}.Given as goal", ""]) + '\n' + '\n\n'.join(body) + '\n'
+        for h in moved:
+            if h in ans: ans.remove(h)
+        first_for_ans = []
+    real = [a for a in ans if a not in helpers]
+    used = [h for h in ans if h in helpers]
+    if real:
+        head = list(first_comment or [])
+        if inv: head = [f"-- The invariants are in Invariants.antt."] if False else []
+        out['Answers.antt'] = '\n'.join(head + pick(ans) + [f"use {mod}.Goals as goal", ""]) + '\n' + '\n\n'.join(ans) + '\n'
+    if stats: say(f"{fn}: " + '; '.join(sorted(set(stats))))
+    return out
+
+def main():
+    cdir, names = sys.argv[1], json.load(open(sys.argv[2]))
+    only = set(sys.argv[3:])
+    crate = {'dir': cdir.rstrip('/'), 'name': os.path.basename(cdir.rstrip('/'))}
+    for folder, dirs, files in sorted(os.walk(os.path.join(cdir, 'proofs'))):
+        if 'Proof.antt' not in files: continue
+        fn = os.path.relpath(folder, os.path.join(cdir, 'proofs'))
+        dotted = fn.replace('/', '.')
+        if only and dotted not in only and dotted.split('.')[-1] not in only: continue
+        key = f"Rattle-{crate['name']}-proofs.{dotted}.Lts"
+        keys = [k for k in names if k == key or k.startswith(key)]
+        if not keys:
+            print(f"{fn}: no names"); continue
+        p = os.path.join(folder, 'Proof.antt')
+        out = convert(p, crate, names[keys[0]], lambda s: print('  ' + s))
+        if out is None:
+            print(f"{fn}: no Tie"); continue
+        os.remove(p)
+        for f, t in out.items():
+            open(os.path.join(folder, f), 'w', encoding='utf8').write(t)
+        if not out: 
+            try: os.rmdir(folder)
+            except OSError: pass
+        print(f"{fn}: {', '.join(out) or 'nothing left'}")
+main()
