@@ -1,4 +1,3 @@
-use Prim.Native.Nat.{◌-◌}
 use native.Mathlib.Omega.{arith}
 use Rattle.texts.proofs.TextLaws.{extended_by_nothing, piece_more, piece_whole}
 use Rattle.texts.proofs.Text.push_text.Goals as goal
