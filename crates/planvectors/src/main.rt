@@ -29,7 +29,6 @@ ghost use Rattle.std.specs.Prelude.{◌≡◌, ◌≤◌, length};
 
 use bits::{BitSets, SET_WIDTH, low_word};
 use checker::Checked;
-use libc::STDIN_FILENO;
 use lists::is_same;
 use planner::{Planned, PlanningAnswer};
 use priced_planner::{Priced, PricedAnswer};
@@ -40,6 +39,9 @@ use records::{
 };
 use refusals::{Refusal, Verdict};
 use sheets::{byte_at, two_bytes_at};
+
+// The standard input's number among open files.
+const STDIN_FILENO: i32 = 0;
 
 // The most bytes that a record, a buffer or a stripe has.
 const ROOM: usize = 4096;

@@ -8,10 +8,12 @@ ghost use Rattle.lists.specs.Lists.{listed, same};
 ghost use Rattle.records.specs.Records.{number_at, front, small_product, seeded, filled_part, digest_from, low_bits};
 ghost use Rattle.sheets.specs.Buffers.{at_front};
 
-use libc::STDOUT_FILENO;
 use lists::is_same;
 use refusals::Refusal;
 use sheets::{byte_at, two_bytes_at};
+
+// The standard output's number among open files.
+const STDOUT_FILENO: i32 = 1;
 
 // The number in the 8 bytes at a place of a record.
 pub fn number_at(record: &[u8], at: usize) -> usize

@@ -26,7 +26,6 @@ use bits::{BitSets, low_word};
 use checker::Checked;
 use codes::Code;
 use families::{Family, Written};
-use libc::{STDIN_FILENO, STDOUT_FILENO};
 use records::{
     digest, end_line, fill, flood, front_of, number_at, print, print_number, print_refusal,
     put_over, rest_at,
@@ -34,6 +33,12 @@ use records::{
 use refusals::Verdict;
 use sheets::{byte_at, two_bytes_at};
 use soundness::Tested;
+
+// The standard input's number among open files.
+const STDIN_FILENO: i32 = 0;
+
+// The standard output's number among open files.
+const STDOUT_FILENO: i32 = 1;
 
 // The most bytes that a record has.
 const RECORD: usize = 8192;
