@@ -46,6 +46,7 @@ module _ (L : ℕ) (bytes : List ℕ) where
 
   -- Symbols that lie within the bytes have L bytes each
   pub symbols_whole : (sources : List ℕ) → EachWithin L (length bytes) sources → EachOf L (map (symbol L bytes) sources)
+  symbols_whole [] within part x = elim x [ ]
   symbols_whole (s ∷ sources) within part (Memᴰ.head e) = ap length e ∙ length_symbol L bytes s (within s (Memᴰ.head refl))
   symbols_whole (s ∷ sources) within part (Memᴰ.tail m) = symbols_whole sources (λ k n. within k (Memᴰ.tail n)) part m
 
