@@ -1,0 +1,12 @@
+-- `lists::any_from` meets its contract. The invariant: the entries that remain decide. Assumes nothing.
+use mathlib.Core.Path.{◌≡◌}
+use Prim.Native.Nat.{◌-◌, ◌≤◌}
+use lib.ListN.{drop}
+use Rattle.lists.specs.Lists.{any_from}
+use Rattle.lists.proofs.any_from.Given as goal
+
+abbrev pub invariant-loop-i : goal.invariant-loop-i
+invariant-loop-i l = (l.i ≤ l.count) × (any_from l.bound (drop l.i l.list) ≡ any_from l.bound l.list)
+
+abbrev pub decreases-loop-i : goal.decreases-loop-i
+decreases-loop-i l = l.count - l.i
