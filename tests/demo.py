@@ -19,18 +19,13 @@ from typing import Callable, Iterator
 
 ROOT = Path(__file__).resolve().parent.parent
 RT = """#!/bin/sh
-mkdir -p target/log target/staticlib
 mktemp -d >/dev/null
-wait_for() { until [ -e "$1" ]; do sleep 0.1; done; }
-prove() {
-    : >"target/log/$1.out"
-    wait_for crates-go
-    if [ "$1" = "${REFUSED:-}" ]; then echo "rt: $1 NOT PROVED (exit 1, 1 s)"; else echo "rt: $1 proved (1 s)"; fi >"target/log/$1.out"
-}
-case $1 in
-version) echo stand-in ;;
-check) shift; for crate; do prove "$crate" & done; wait; for crate; do cat "target/log/$crate.out"; done; [ -z "${REFUSED:-}" ] ;;
-staticlib) wait_for capi-goes; echo archive >target/staticlib/libcapi.a ;;
+wait_for() { until [ -e "../../$1" ]; do sleep 0.1; done; }
+crate=${PWD##*/}
+case $1-$crate in
+version-*) echo stand-in ;;
+lib-capi) wait_for capi-goes; mkdir -p out; echo archive >out/libcapi.a ;;
+lib-*) wait_for crates-go; if [ "$crate" = "${REFUSED:-}" ]; then echo "logic=not-proved"; exit 1; fi ;;
 esac
 """
 CARGO = """#!/bin/sh
@@ -50,11 +45,11 @@ class Repository:
 
     def __init__(self, folder: str) -> None:
         self.root = Path(folder)
-        for name in ("bin", "rust", "crates/capi", "target/log"):
+        for name in ("bin", "rust", "target/log", *(f"crates/{crate}" for crate in ("first", "second", "third", "other", "capi"))):
             (self.root / name).mkdir(parents=True)
         for name in ("demo.sh", "progress.sh", "library.sh"):
             shutil.copy(ROOT / name, self.root)
-        (self.root / "crates.txt").write_text("# floors\nfirst:\nsecond:\nthird:\nother: first\ncapi: first second third\n")
+        (self.root / "crates.txt").write_text("# floors\nfirst:\nsecond:\nthird:\nother: first\ncapi staticlib: first second third\n")
         (self.root / "crates/capi/text").write_text("")
         # what an earlier run has left doesn't count
         (self.root / "target/log/second.out").write_text("rt: second proved (1 s)\n")
@@ -149,7 +144,7 @@ def test_refused(repository: Repository) -> None:
     repository.goes("crates-go")(0)
     status, out, aside = repository.elsewhere(REFUSED="second")
     assert (status, out) == (1, ""), (status, out, aside)
-    assert aside.endswith("demo.sh: the library isn't proved\n") and "rt: second NOT PROVED (exit 1, 1 s)\n" in aside, aside
+    assert aside.endswith("demo.sh: the library isn't proved\n") and "logic=not-proved\n" in aside, aside
 
 
 def test_terminal(repository: Repository) -> None:
