@@ -1,0 +1,40 @@
+use Prim.Native.Nat.{ℕ, ◌*◌}
+use mathlib.Core.Path.{refl, subst⁻¹}
+use native.Mathlib.Omega.{arith}
+use lib.ListN.{length-set}
+use lib.Seq.{paste-zero}
+use Rattle.gf2.specs.Stripes.{symbol, xor_bytes}
+use Rattle.passes.specs.InnerSources.{listed}
+use Rattle.passes.specs.InnerSums.{summed, EachWithin}
+use Rattle.symbol_passes.proofs.LoopLaws.{added_more, added_all}
+use Rattle.symbol_passes.proofs.add.Goals as goal
+
+pub loop-i-init : goal.loop-i-init
+loop-i-init c =
+    let args = c.args in
+    (omega arith, refl, paste-zero args.stripe.now (args.target * args.size) (summed args.size args.stripe.now (xor_bytes (symbol args.size args.stripe.now args.target) (symbol args.size args.stripe.now args.source)) (listed args.sources)))
+
+pub sum-requires : goal.sum-requires
+sum-requires c =
+    let start = c in
+    let loop = c.loop-i in
+    (start.requires.2, subst⁻¹ (λ (n : ℕ). EachWithin start.args.size n (listed start.args.sources)) loop.invariant.1 start.requires.3, omega arith)
+
+pub loop-i-preserved : goal.loop-i-preserved
+loop-i-preserved c =
+    let start = c in
+    let args = start.args in
+    let loop = c.loop-i in (
+      omega arith,
+      simp length-set (omega arith),
+      added_more args.size args.stripe.now args.target (omega arith) (listed args.sources) start.requires.3 args.source (omega arith) loop.stripe loop.i
+          c.symbol_byte.result c.symbol_byte-in-loop-i.result c.sum.result (omega arith) loop.invariant.2
+          c.symbol_byte.ensures c.symbol_byte-in-loop-i.ensures c.sum.ensures,
+    )
+
+pub returns : goal.returns
+returns c =
+    let start = c in
+    let args = start.args in
+    let loop = c.loop-i in
+    added_all args.size args.stripe.now args.target (omega arith) (listed args.sources) start.requires.3 args.source (omega arith) loop.stripe loop.i (omega arith) loop.invariant.2

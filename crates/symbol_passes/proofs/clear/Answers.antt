@@ -1,0 +1,38 @@
+use Prim.Native.Nat.{ℕ, ◌*◌}
+use mathlib.Core.Path.{refl, subst⁻¹}
+use native.Mathlib.Omega.{arith}
+use lib.ListN.{length-set, replicate}
+use lib.Seq.{paste-zero}
+use Rattle.passes.specs.InnerSources.{listed}
+use Rattle.passes.specs.InnerSums.{summed, EachWithin}
+use Rattle.symbol_passes.proofs.LoopLaws.{cleared_more, cleared_all}
+use Rattle.symbol_passes.proofs.clear.Goals as goal
+
+pub loop-i-init : goal.loop-i-init
+loop-i-init c =
+    let args = c.args in
+    (omega arith, refl, paste-zero args.stripe.now (args.target * args.size) (summed args.size args.stripe.now (replicate args.size 0) (listed args.sources)))
+
+pub sum-requires : goal.sum-requires
+sum-requires c =
+    let start = c in
+    let loop = c.loop-i in
+    (start.requires.1, subst⁻¹ (λ (n : ℕ). EachWithin start.args.size n (listed start.args.sources)) loop.invariant.1 start.requires.2, omega arith)
+
+pub loop-i-preserved : goal.loop-i-preserved
+loop-i-preserved c =
+    let start = c in
+    let args = start.args in
+    let loop = c.loop-i in (
+      omega arith,
+      simp length-set (omega arith),
+      cleared_more args.size args.stripe.now args.target (omega arith) (listed args.sources) start.requires.2 loop.stripe loop.i
+          c.sum.result (omega arith) loop.invariant.2 c.sum.ensures,
+    )
+
+pub returns : goal.returns
+returns c =
+    let start = c in
+    let args = start.args in
+    let loop = c.loop-i in
+    cleared_all args.size args.stripe.now args.target (omega arith) (listed args.sources) start.requires.2 loop.stripe loop.i (omega arith) loop.invariant.2
