@@ -46,6 +46,8 @@ module _ (L : ℕ) where
   first_parts count a b c d e a_length b_length c_length d_length e_length = taken count (five_parts a b c d e) five
     where
       taken : (n : ℕ) (parts : List (List ℕ)) → EachOf L parts → EachOf L (take n parts)
+      taken zero parts each p x'' = elim x'' [ ]
+      taken (suc n) [] each p x5 = elim x5 [ ]
       taken (suc n) (part ∷ parts) each p (Memᴰ.head q) = each p (Memᴰ.head q)
       taken (suc n) (part ∷ parts) each p (Memᴰ.tail m) = taken n parts (λ k l. each k (Memᴰ.tail l)) p m
 
@@ -54,6 +56,7 @@ module _ (L : ℕ) where
       five p (Memᴰ.tail (Memᴰ.head q)) = ap length q ∙ b_length
       five p (Memᴰ.tail (Memᴰ.tail (Memᴰ.head q))) = ap length q ∙ c_length
       five p (Memᴰ.tail (Memᴰ.tail (Memᴰ.tail (Memᴰ.head q)))) = ap length q ∙ d_length
+      five p (Memᴰ.tail (Memᴰ.tail (Memᴰ.tail (Memᴰ.tail (Memᴰ.tail x20))))) = elim x20 [ ]
       five p (Memᴰ.tail (Memᴰ.tail (Memᴰ.tail (Memᴰ.tail (Memᴰ.head q))))) = ap length q ∙ e_length
 
 -- The first of some symbols, one by one
