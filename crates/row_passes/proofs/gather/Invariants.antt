@@ -1,0 +1,11 @@
+-- `row_passes::gather` meets its contract. The invariant: the row's data symbols are those gathered and those from the next on. Assumes nothing.
+use Prim.Native.Nat.{◌+◌, ◌-◌}
+use Rattle.bits.specs.Numerals.{numeral}
+use Rattle.row_passes.specs.InnerPasses.{Gathers}
+use Rattle.row_passes.proofs.gather.Given as goal
+
+abbrev pub invariant-loop-next : goal.invariant-loop-next
+invariant-loop-next l = Gathers (numeral l.row) l.data_symbols (l.first + 1) l.sources l.next
+
+abbrev pub decreases-loop-next : goal.decreases-loop-next
+decreases-loop-next l = l.data_symbols - l.next

@@ -1,0 +1,17 @@
+-- `row_passes::next_symbol` meets its contract: the row's lowest element from one on, where it is a data symbol. Assumes nothing.
+use native.Mathlib.Omega.{arith}
+use Rattle.bits.specs.Numerals.{set_width, numeral}
+use Rattle.row_passes.proofs.GatherLaws.{next_within, next_behind}
+use Rattle.row_passes.proofs.next_symbol.Goals as goal
+
+pub returns-then-next-data_symbols : goal.returns-then-next-data_symbols
+returns-then-next-data_symbols c =
+    let start = c in
+    let args = start.args in
+    next_within (numeral args.row) args.data_symbols set_width args.from _ start.requires.0 start.requires.1 c.lowest_from-next.ensures c.if-next-data_symbols.true
+
+pub returns : goal.returns
+returns c =
+    let start = c in
+    let args = start.args in
+    next_behind (numeral args.row) args.data_symbols set_width args.from _ start.requires.0 start.requires.1 c.lowest_from-next.ensures (omega arith)
