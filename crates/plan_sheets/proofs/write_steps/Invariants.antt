@@ -1,0 +1,13 @@
+-- `plan_sheets::write_steps` meets its contract. The invariant: the steps for the symbols passed are written and their sources gathered, and those for the
+-- others remain. Assumes nothing.
+use Prim.Native.Nat.{◌-◌, ◌≤◌}
+use Rattle.bits.specs.BitSets.{has}
+use Rattle.bits.specs.Numerals.{numeral, numerals}
+use Rattle.plan_sheets.proofs.StepsWrittenLaws.{PlanRemaining}
+use Rattle.plan_sheets.proofs.write_steps.Given as goal
+
+abbrev pub invariant-loop-target : goal.invariant-loop-target
+invariant-loop-target l = (l.target ≤ l.symbols) × PlanRemaining (numerals l.subsets) l.symbols (has (numeral l.wanted)) l.initial.buffer l.buffer (numeral l.sources) l.number l.target
+
+abbrev pub decreases-loop-target : goal.decreases-loop-target
+decreases-loop-target l = l.symbols - l.target

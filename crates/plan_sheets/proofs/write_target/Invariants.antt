@@ -1,0 +1,11 @@
+-- `plan_sheets::write_target` meets its contract. The invariant: the steps for the places passed are written, and those for the others remain. Assumes nothing.
+use Prim.Native.Nat.{◌-◌, ◌≤◌}
+use Rattle.bits.specs.Numerals.{numeral}
+use Rattle.plan_sheets.proofs.StepsWrittenLaws.{TargetRemaining}
+use Rattle.plan_sheets.proofs.write_target.Given as goal
+
+abbrev pub invariant-loop-source : goal.invariant-loop-source
+invariant-loop-source l = (l.source ≤ l.symbols) × TargetRemaining l.target l.symbols (numeral l.subset) l.initial.buffer l.number l.buffer l.first l.next l.source
+
+abbrev pub decreases-loop-source : goal.decreases-loop-source
+decreases-loop-source l = l.symbols - l.source
