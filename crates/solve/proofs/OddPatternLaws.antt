@@ -90,6 +90,7 @@ no_pivot_if_none_found patterns rows (first ∷ targets) none t (Memᴰ.tail m) 
   where
     pattern : ℕ
     pattern = pivot_for patterns (get_or rows first 0)
+no_pivot_if_none_found patterns rows [] none t there = elim there [ ]
 
 -- A target of whose row the pattern is the pivot
 record PivotOfTarget (patterns rows targets : List ℕ) (pattern : ℕ) : Type 0 where
