@@ -1,0 +1,62 @@
+use mathlib.Core.Path.{ap, ap₂, ◌∙◌}
+use native.Mathlib.Omega.{arith}
+use Rattle.bits.proofs.NumeralLaws.{numerals_set}
+use Rattle.codes.specs.Layouts.{symbols_of, first_symbol}
+use Rattle.codes.proofs.RowLaws.{rows_more, rows_all}
+use Rattle.family_codes.specs.Families.{family_row}
+use Rattle.family_codes.proofs.FamilyLaws.{layout_bounds, symbols_to}
+use Rattle.family_matrices.proofs.MatrixLaws.{family_code_of_parts}
+use Rattle.family_matrices.proofs.code_of.Goals as goal
+
+pub layout_of-layout-requires : goal.layout_of-layout-requires
+layout_of-layout-requires c = c.requires
+
+pub symbols-symbols-requires : goal.symbols-symbols-requires
+symbols-symbols-requires c =
+    let b = layout_bounds c.args.family c.requires _ c.layout_of-layout.ensures in
+    (omega arith, omega arith)
+
+pub data_disks_of-requires : goal.data_disks_of-requires
+data_disks_of-requires c = c.requires
+
+pub first_symbol-data_symbols-requires : goal.first_symbol-data_symbols-requires
+first_symbol-data_symbols-requires c =
+    let laid = c in
+    let b = layout_bounds laid.args.family laid.requires _ laid.layout_of-layout.ensures in
+    (omega (arith, c.data_disks_of.ensures), omega arith, omega arith)
+
+pub loop-symbol-init : goal.loop-symbol-init
+loop-symbol-init c =
+    let counted = c in
+    let start = counted in
+    let symbols = counted.symbols-symbols.ensures ∙ ap symbols_of counted.layout_of-layout.ensures in (
+      omega arith,
+      symbols,
+      omega (arith, symbols, symbols_to start.args.family start.requires),
+      c.empty_sets-rows.ensures,
+    )
+
+pub row_of-requires : goal.row_of-requires
+row_of-requires c = (c.requires, omega (arith, c.loop-symbol-test.true, c.loop-symbol.invariant.1))
+
+pub loop-symbol-preserved : goal.loop-symbol-preserved
+loop-symbol-preserved c =
+    let turn = c in
+    let family = turn.args.family in
+    let rows = turn.loop-symbol.rows in
+    let symbol = turn.loop-symbol.symbol in (
+      omega arith,
+      turn.loop-symbol.invariant.1,
+      turn.loop-symbol.invariant.2,
+      numerals_set rows symbol c.row_of.result
+          ∙ rows_more (family_row family) _ turn.loop-symbol.invariant.2 symbol turn.loop-symbol.invariant.3 (omega arith) c.row_of.ensures,
+    )
+
+pub returns : goal.returns
+returns c =
+    let end = c.loop-symbol in
+    let sized = c in
+    let laid = sized in
+    let data_symbols = sized.first_symbol-data_symbols.ensures ∙ ap₂ first_symbol laid.layout_of-layout.ensures sized.data_disks_of.ensures in
+    family_code_of_parts laid.args.family _ _ _ _ laid.layout_of-layout.ensures sized.symbols-symbols.ensures data_symbols
+    (rows_all (family_row laid.args.family) _ end.invariant.2 end.symbol end.invariant.3 (omega arith))
