@@ -131,6 +131,7 @@ module _ (count : ℕ) (wanted : ℕ → Bool) where
   each_formed_if_fine : (known : ℕ → Bool) (number : ℕ) (steps : List SheetStep) → steps_verdict count wanted known number steps ≡ Fine
       → EachFormed count steps
   unfolding steps_verdict
+  each_formed_if_fine known number [] e s there = elim there [ ]
   each_formed_if_fine known number (first ∷ steps) e s (Memᴰ.head same) =
       let here = first_of (step_faults count wanted known number first) in
       let none = (fine_means_none_holds Fine (step_faults count wanted known number first) (both_fine here _ e).0).1 in
