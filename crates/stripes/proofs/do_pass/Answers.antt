@@ -1,0 +1,40 @@
+-- `stripes::do_pass` meets its contract: each kind's loop begins with what the step makes of its target. Assumes nothing.
+use mathlib.Core.Path.{sym, ap, ◌∙◌, subst}
+use lib.ListN.{length}
+use Rattle.stripes.specs.InnerStepSymbols.{StepSymbolsWithin}
+use Rattle.passes.specs.InnerSources.{listed}
+use Rattle.stripes.proofs.RunLaws.{after_pass}
+use Rattle.stripes.proofs.do_pass.Goals as goal
+
+pub clear-requires : goal.clear-requires
+clear-requires c =
+    let start = c in
+    let fits = subst (StepSymbolsWithin start.args.size (length start.args.stripe.now)) c.in-Clear.is start.requires.0 in
+    (fits, start.requires.1, start.requires.2)
+
+pub copy-requires : goal.copy-requires
+copy-requires c =
+    let start = c in
+    let fits = subst (StepSymbolsWithin start.args.size (length start.args.stripe.now)) c.in-Copy.is start.requires.0 in
+    (fits.0, fits.1, start.requires.1, start.requires.2)
+
+pub add-requires : goal.add-requires
+add-requires c =
+    let start = c in
+    let fits = subst (StepSymbolsWithin start.args.size (length start.args.stripe.now)) c.in-Add.is start.requires.0 in
+    (fits.0, fits.1, start.requires.1, start.requires.2)
+
+pub returns-in-Clear : goal.returns-in-Clear
+returns-in-Clear c =
+    let args = c.args in
+    c.clear.ensures ∙ sym (ap (after_pass args.size args.stripe.now (listed args.sources)) c.in-Clear.is)
+
+pub returns-in-Copy : goal.returns-in-Copy
+returns-in-Copy c =
+    let args = c.args in
+    c.copy.ensures ∙ sym (ap (after_pass args.size args.stripe.now (listed args.sources)) c.in-Copy.is)
+
+pub returns-in-Add : goal.returns-in-Add
+returns-in-Add c =
+    let args = c.args in
+    c.add.ensures ∙ sym (ap (after_pass args.size args.stripe.now (listed args.sources)) c.in-Add.is)
