@@ -1,0 +1,50 @@
+-- `fewest::fewest` meets its contract: the search from the columns, with nothing taken and all known symbols allowed. Assumes nothing.
+use mathlib.Core.Path.{sym, ap, ◌∙◌, subst}
+use mathlib.Core.Bool.{Bool}
+use Prim.Native.Nat.{ℕ, ◌^◌, ◌<◌}
+use native.Mathlib.Omega.{arith}
+use lib.Bits.{bit_and}
+use lib.ListN.{take}
+use Rattle.bits.specs.BitSets.{has}
+use Rattle.bits.specs.Numerals.{set_width, numeral, numerals}
+use Rattle.bits.proofs.Booleans.{or_true_if_left, or_true_if_right}
+use Rattle.gf2.specs.InnerSubsetPlans.{survivors}
+use Rattle.fewest.specs.InnerFewest.{Images, either}
+use Rattle.fewest.proofs.FirstImageLaws.{fewest_by_involved}
+use Rattle.fewest.proofs.SearchLaws.{cut_small, cut_same, fewest_of_array}
+use Rattle.fewest.proofs.fewest.Goals as goal
+
+pub search-found-requires : goal.search-found-requires
+search-found-requires c =
+    let start = c in
+    let args = start.args in
+    let array = c.below-array.ensures in
+    let survivors = c.common-survivors.ensures ∙ ap (bit_and (numeral args.known)) array in
+    let targets = c.common-targets.ensures ∙ ap (bit_and (numeral args.wanted)) array in
+    let survivors_small = subst (λ (x : ℕ). x < 2 ^ set_width) (sym survivors) (cut_small (numeral args.known) args.symbols start.requires.0) in (
+      c.first_images-images.ensures.few,
+      subst (λ (x : ℕ). x < 2 ^ set_width) (sym targets) (cut_small (numeral args.wanted) args.symbols start.requires.0),
+      omega (arith, c.empty.ensures),
+      survivors_small,
+      survivors_small,
+    )
+
+pub returns : goal.returns
+returns c =
+    let start = c in
+    let args = start.args in
+    let rows = take args.symbols (numerals args.rows) in
+    let array = c.below-array.ensures in
+    let common = c.common-survivors in
+    let common2 = c.common-targets in
+    let same_known = ap has (common.ensures ∙ ap (bit_and (numeral args.known)) array) ∙ cut_same (numeral args.known) args.symbols start.requires.0 start.requires.3 in
+    let same_wanted = ap has (common2.ensures ∙ ap (bit_and (numeral args.wanted)) array) ∙ cut_same (numeral args.wanted) args.symbols start.requires.0 start.requires.4 in
+    let involved = either (numeral common.result) (numeral common2.result) in
+    let first = c.first_images-images in
+    fewest_by_involved rows involved
+    (λ s h. or_true_if_left (has (numeral common.result) s) (has (numeral common2.result) s) (ap (λ (set : ℕ → Bool). set s) same_known ∙ h))
+    (λ s h. or_true_if_right (has (numeral common.result) s) (has (numeral common2.result) s) (ap (λ (set : ℕ → Bool). set s) same_wanted ∙ h))
+    (fewest_of_array (survivors involved rows) (numeral args.known) (numeral args.wanted) _ _ _ _ args.branchings _ c.empty.ensures same_known same_wanted
+    c.search-found.ensures.counted
+    (c.search-found.ensures.searched (survivors involved rows)
+    (subst (λ (x : ℕ). Images (survivors involved rows) (has x) first.result.count (numerals first.result.sets)) (sym c.empty.ensures) first.ensures.images)))
