@@ -131,7 +131,6 @@ RUST = re.compile(r"//")
 def main(argv):
     if "--dry" not in argv:
         keep_apart()
-        one_spelling()
     library, own = library_words(), declared() - {"append-nil", "or-false"}  # locals of ours; the library's where they are imported
     table, both = {}, set()
     seen = collections.defaultdict(set)
@@ -179,6 +178,7 @@ def main(argv):
         if new != text:
             with open(p, "w", encoding="utf-8") as it:
                 it.write(new)
+    one_spelling()
 
 
 main(sys.argv[1:])
