@@ -10,13 +10,13 @@ edits=
 if [ "${1:-}" = --must-fail ]; then edits=yes; shift; fi
 
 # The crates to prove: those named and, through crates.txt, what they depend on.
-shown= todo=${*:-$(sed -n 's/^\([a-z_0-9]*\):.*/\1/p' crates.txt)}
+shown= todo=${*:-$(sed -n 's/^\([a-z_0-9]*\)\( staticlib\)\?:.*/\1/p' crates.txt)}
 while [ -n "$todo" ]; do
     next=
     for crate in $todo; do
         case " $shown " in *" $crate "*) continue ;; esac
         [ -d "crates/$crate" ] || continue # a library of the kit
-        shown="$shown $crate" next="$next $(sed -n "s/^$crate:\(.*\)/\1/p" crates.txt)"
+        shown="$shown $crate" next="$next $(sed -n "s/^$crate\( staticlib\)\?:\(.*\)/\2/p" crates.txt)"
     done
     todo=$next
 done
@@ -28,7 +28,8 @@ trap 'exit 1' HUP INT TERM
 mkdir "$tree/crates"
 for crate in $shown; do
     cp -R "crates/$crate" "$tree/crates/"
-    grep "^$crate:" crates.txt >>"$tree/crates.txt"
+    rm -rf "$tree/crates/$crate/out"
+    grep "^$crate\( staticlib\)\?:" crates.txt >>"$tree/crates.txt"
 done
 cd "$tree"
 rm -r crates/bits/must-fail
@@ -46,8 +47,12 @@ for file in "$root"/crates/bits/specs/*.antt "$root"/crates/bits/proofs/*.antt; 
     cmp "$file" "crates/bits/${file#"$root/crates/bits/"}" || { echo "${file##*/} isn't the project's own"; exit 1; }
 done
 for crate in $shown; do
-    [ "$crate" = bits ] || diff -r "$root/crates/$crate" "crates/$crate"
+    [ "$crate" = bits ] || diff -r -x out "$root/crates/$crate" "crates/$crate"
 done
 
-rt check
+rt all check --jobs 4
+for crate in $shown; do
+    [ -e "crates/$crate/src/main.rt" ] || continue
+    (cd "crates/$crate" && rt run <stdin | cmp - stdout) || { echo "$crate printed something else"; exit 1; }
+done
 [ -z "$edits" ] || rt must-fail bits
