@@ -106,6 +106,12 @@ def map_paths(body, n, stats, params=()):
         if cl and cl.get('fields'):
             fs = cl['fields']
             body = re.sub(r"(\." + re.escape(new) + r"\.ensures)\.(\d+)", lambda m: m.group(1) + '.' + fs[int(m.group(2))] if int(m.group(2)) < len(fs) else m.group(0), body)
+    for m in re.finditer(r"let\s+(" + ID + r")\s*=\s*(?:" + alt + r")\.(" + ID + r")\s+in", body):
+        for (pn, _, (o, new), callee, _), cl in zip(n['places'], n['clauses']):
+            if new == m.group(2) and cl and cl.get('fields'):
+                fs = cl['fields']
+                body = re.sub(r"(?<![\w'.-])(" + re.escape(m.group(1)) + r"\.ensures)\.(\d+)", lambda q: q.group(1) + '.' + fs[int(q.group(2))] if int(q.group(2)) < len(fs) else q.group(0), body)
+    body = re.sub(r"\.auto(?:\.1)*\.0\b", '.auto.buffer', body)
     def arg(m):
         return m.group(1) + argmap.get(m.group(2), m.group(2))
     body = re.sub(r"(\bargs\.)(" + ID + r")", arg, body)
@@ -139,8 +145,21 @@ def as_record(body, fields):
     before = b[:i]
     if before.strip() and not re.search(r"\bin\s*$", before): return None
     parts = tuple_parts(b[i:])
+    while parts and len(parts) < len(fields) and tuple_parts(parts[-1]):
+        parts = parts[:-1] + tuple_parts(parts[-1])
     if not parts or len(parts) != len(fields): return None
     return before + 'record { ' + '; '.join(f"{f} = {p.strip()}" for f, p in zip(fields, parts)) + ' }'
+
+def with_helpers(body, inl):
+    """each helper that took a place is a `let` of the answers that cite it"""
+    lets = []
+    for h0, t0, b0 in reversed(inl):
+        pat = r"(?<![\w'.-])" + re.escape(h0) + r"\s+c(?:\.before)*(?![\w'.-])"
+        if re.search(pat, body) or any(re.search(pat, l) for l in lets):
+            body = re.sub(pat, h0, body)
+            lets = [re.sub(pat, h0, l) for l in lets]
+            lets.insert(0, f"let {h0}{' : ' + t0 if t0 else ''} = {b0} in")
+    return '\n    '.join(lets + [body]) if lets else body
 
 def convert(path, crate, n, say):
     text = open(path, encoding='utf8').read()
@@ -149,6 +168,7 @@ def convert(path, crate, n, say):
     dotted = fn.replace('/', '.')
     chunks = split_decls(text)
     uses, comments, inv, ans, helpers = [], [], [], [], []
+    inl = []
     needs = {}
     for old, new in n['needs']:
         needs.setdefault(norm(old), new)
@@ -221,10 +241,14 @@ def convert(path, crate, n, say):
             unf = [l for l in rest[1:k] if l.startswith('unfolding')]
             body = '\n'.join(rest[k:])
             mm = re.match(re.escape(m.group(2)) + r"((?:\s+[^\s=]+)*)\s*=\s*", body)
+            extra = [x for x in (mm.group(1).split()[1:] if mm else []) if x != 'κs']
             body = body[mm.end():] if mm else body
+            if extra: body = 'λ ' + ' '.join(extra) + '. ' + body
             if TRIVIAL.match(body) and (not unf):
                 dropped += 1; continue
+            if re.match(r"(shape_of|enum_known|enum_told|known_told|self_known)\b", new): dropped += 1; continue
             body = map_paths(body, n, stats, params)
+            body = with_helpers(body, inl)
             if new in n['asked']:
                 r = as_record(body, n['asked'][new])
                 if r is None: say(f"{fn}: {new} asks {n['asked'][new]}")
@@ -236,6 +260,21 @@ def convert(path, crate, n, say):
             continue
         if re.match(r"(pub )?\S+_spec\s*:\s*\{M : Type 1\}", flat) or re.match(r"(pub )?\S+[-_]spec\s*:.*statement", flat):
             continue
+        hm = re.match(r"(pub )?(" + ID + r")\s*:\s*\(c : " + tie + r"\.", flat)
+        if hm:
+            k = next((j for j, l in enumerate(rest) if j > 0 and re.match(re.escape(hm.group(2)) + r"\s", l)), None)
+            if k is not None:
+                body = ' '.join(l.strip() for l in rest[k:] if not l.strip().startswith('--'))
+                mm = re.match(re.escape(hm.group(2)) + r"((?:\s+[^\s=]+)*)\s*=\s*", body)
+                if mm and mm.group(1).split() == ['c']:
+                    body = map_paths(body[mm.end():], n, stats, params)
+                    ty = ' '.join(l.strip() for l in rest[:k] if not l.strip().startswith('--') and not l.startswith('unfolding'))
+                    ty = ty[ty.index('→') + 1:].strip()
+                    if re.match(r"let\b", ty): ty = None
+                    else: ty = map_paths(ty, n, stats, params)
+                    inl.append((hm.group(2), ty, body))
+                    say(f"{fn}: {hm.group(2)} is a let where it is cited")
+                    continue
         helpers.append('\n'.join(com + rest)); 
         ans.append('\n'.join(com + rest))
     out = {}
