@@ -112,6 +112,11 @@ def map_paths(body, n, stats, params=()):
                 fs = cl['fields']
                 body = re.sub(r"(?<![\w'.-])(" + re.escape(m.group(1)) + r"\.ensures)\.(\d+)", lambda q: q.group(1) + '.' + fs[int(q.group(2))] if int(q.group(2)) < len(fs) else q.group(0), body)
     body = re.sub(r"\.auto(?:\.1)*\.0\b", '.auto.buffer', body)
+    # what an arm says of the value
+    arms = [new for _, _, (o, new), _, _ in n['places'] if re.match(r"in[-_]", new or '')]
+    def told(m):
+        return '.' + (m.group(1)[1:] if m.group(1) else (arms[0] if arms else 'enum_told')) + '.is'
+    body = re.sub(r"\.enum_told((?:-[\w]+)*?)-1\.given\.1\b", told, body)
     def arg(m):
         return m.group(1) + argmap.get(m.group(2), m.group(2))
     body = re.sub(r"(\bargs\.)(" + ID + r")", arg, body)
