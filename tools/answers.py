@@ -112,6 +112,16 @@ def map_paths(body, n, stats, params=()):
                 fs = cl['fields']
                 body = re.sub(r"(?<![\w'.-])(" + re.escape(m.group(1)) + r"\.ensures)\.(\d+)", lambda q: q.group(1) + '.' + fs[int(q.group(2))] if int(q.group(2)) < len(fs) else q.group(0), body)
     body = re.sub(r"\.auto(?:\.1)*\.0\b", '.auto.buffer', body)
+    body = re.sub(r"(\bargs?\.[\w]+|\ba\.[\w]+)\.ptr\b", r"\1.ref_ptr", body)
+    # a call's clauses, cited whole, are a tuple of them
+    def whole(path, fs):
+        return '(' + ', '.join(f"{path}.{f}" for f in fs) + ')'
+    for (pn, _, (o, new), callee, _), cl in zip(n['places'], n['clauses']):
+        if cl and cl.get('fields') and new:
+            fs = cl['fields']
+            body = re.sub(r"(?<![\w'.-])((?:" + alt + r")\." + re.escape(new) + r"\.ensures)(?![\w'.-])", lambda m: whole(m.group(1), fs), body)
+            for m in set(re.findall(r"let\s+(" + ID + r")\s*=\s*(?:" + alt + r")\." + re.escape(new) + r"\s+in", body)):
+                body = re.sub(r"(?<![\w'.-])(" + re.escape(m) + r"\.ensures)(?![\w'.-])", lambda q: whole(q.group(1), fs), body)
     # what an arm says of the value
     arms = [new for _, _, (o, new), _, _ in n['places'] if re.match(r"in[-_]", new or '')]
     def told(m):
@@ -138,22 +148,29 @@ def tuple_parts(t):
     if cur.strip(): parts.append(cur)
     return parts
 
+def last_in(b):
+    """where what follows the last `let .. in` at top level begins"""
+    depth, k = 0, 0
+    for m in re.finditer(r"[(\[{]|[)\]}]|(?<![\w'.-])in(?![\w'.-])\s*", b):
+        t = m.group(0)
+        if t[0] in '([{': depth += 1
+        elif t[0] in ')]}': depth -= 1
+        elif depth == 0: k = m.end()
+    return k
+
 def as_record(body, fields):
     b = body.rstrip()
-    if not b.endswith(')'): return None
-    # the last top-level '(' that closes at the end
-    depth = 0
-    for i in range(len(b) - 1, -1, -1):
-        if b[i] in ')]}': depth += 1
-        elif b[i] in '([{': depth -= 1
-        if depth == 0: break
-    before = b[:i]
-    if before.strip() and not re.search(r"\bin\s*$", before): return None
-    parts = tuple_parts(b[i:])
+    k = last_in(b)
+    head, last = b[:k], b[k:].strip()
+    if last.startswith('record'): return body
+    if len(fields) == 1: return head + 'record { ' + fields[0] + ' = ' + last + ' }'
+    parts = tuple_parts(last)
     while parts and len(parts) < len(fields) and tuple_parts(parts[-1]):
         parts = parts[:-1] + tuple_parts(parts[-1])
-    if not parts or len(parts) != len(fields): return None
-    return before + 'record { ' + '; '.join(f"{f} = {p.strip()}" for f, p in zip(fields, parts)) + ' }'
+    if parts and len(parts) == len(fields):
+        return head + 'record { ' + '; '.join(f"{f} = {p.strip()}" for f, p in zip(fields, parts)) + ' }'
+    if re.match(r"λ|search|omega|grind|elim|⊎_elim|rw|simp|subst|absurd", last): return None
+    return head + 'let all = ' + last + ' in record { ' + '; '.join(f"{f} = all.{i}" for i, f in enumerate(fields)) + ' }'
 
 def with_helpers(body, inl):
     """each helper that took a place is a `let` of the answers that cite it"""
@@ -233,14 +250,17 @@ def convert(path, crate, n, say):
         if m:
             old = norm(m.group(3))
             cand = [old, re.sub(r"^overflow-", "", old), re.sub(r"^(array|slice)-", "", old)]
-            new = None
+            new = None; oldname = None
             for cnd in cand:
-                if cnd in needs: new = needs[cnd]; break
+                if cnd in needs: new = needs[cnd]; oldname = cnd; break
             if new is None:
                 if any(norm(s) in cand for s in n['settled']) :
                     dropped += 1; continue
-                say(f"{fn}: no goal for {m.group(3)}"); 
-                new = m.group(3)
+                sb = re.match(r"slice_bounds[-_](.*)[-_](start|end|count)(?:[-_](\d+))?$", m.group(3))
+                if sb: new = f"slice_bounds-{sb.group(1)}-{sb.group(2)}" + (f"-{sb.group(3)}" if sb.group(3) else '')
+                else:
+                    say(f"{fn}: no goal for {m.group(3)}")
+                    new = m.group(3)
             k = next((j for j, l in enumerate(rest) if j > 0 and re.match(re.escape(m.group(2)) + r"\s", l)), None)
             if k is None: say(f"{fn}: no clause for {m.group(2)}"); continue
             unf = [l for l in rest[1:k] if l.startswith('unfolding')]
@@ -254,9 +274,9 @@ def convert(path, crate, n, say):
             if re.match(r"(shape_of|enum_known|enum_told|known_told|self_known)\b", new): dropped += 1; continue
             body = map_paths(body, n, stats, params)
             body = with_helpers(body, inl)
-            if new in n['asked']:
-                r = as_record(body, n['asked'][new])
-                if r is None: say(f"{fn}: {new} asks {n['asked'][new]}")
+            if oldname in n['asked']:
+                r = as_record(body, n['asked'][oldname])
+                if r is None: say(f"{fn}: {new} asks {n['asked'][oldname]}")
                 else: body = r
             gap = ' '
             if '\n' in body and not body.startswith('let') : gap = ' '
