@@ -1,0 +1,97 @@
+use mathlib.Core.Path.{sym, ap, ◌∙◌, subst}
+use Prim.Native.Nat.{◌<◌}
+use native.Mathlib.Nat.{sub-zero}
+use native.Mathlib.Omega.{arith}
+use Rattle.bits.specs.BitSets.{has}
+use Rattle.bits.specs.Numerals.{set_width, numeral, numerals}
+use Rattle.bits.proofs.NumeralLaws.{get_or_numerals, numerals_set}
+use Rattle.gf2.specs.Plans.{NamesBelow}
+use Rattle.gf2.proofs.PlanLaws.{target_below}
+use Rattle.plan_sheets.specs.PlanSheets.{step_at, sheet_steps}
+use Rattle.plans.specs.InnerProgress.{as_step}
+use Rattle.plans.proofs.StepLaws.{remaining_all, remaining_first, remaining_next, remaining_refused, remaining_none, step_read_names_below, source_below}
+use Rattle.refusals.specs.Orders.{outcome_of}
+use Rattle.steps.proofs.run_on_rows.Goals as goal
+
+pub loop-number-init : goal.loop-number-init
+loop-number-init c =
+    let args = c.args in
+    (omega arith, rw (sub-zero, c.empty-sources.ensures) (remaining_all args.symbols (has (numeral args.wanted)) (numerals args.code_rows) (numeral args.survivors) (sheet_steps args.count args.steps.now)))
+
+pub read_step-reading-requires : goal.read_step-reading-requires
+read_step-reading-requires c = (c.requires.0, record { few = omega arith; room = omega (arith, c.requires.1.room) })
+
+pub returns-in_default : goal.returns-in_default
+returns-in_default c =
+    let args = c.args in
+    let reached = remaining_first args.count args.steps.now c.loop-number.invariant.1 c.loop-number-test.true in
+    let refused = ap as_step c.in_default.is in
+    remaining_refused reached (c.verdict_of.ensures ∙ ap outcome_of refused) (sym c.read_step-reading.ensures ∙ refused)
+
+pub offset_bounds-rows-target : goal.offset_bounds-rows-target
+offset_bounds-rows-target c =
+    let named : NamesBelow set_width c.in-Step.step = let start = c in let args = start.args in let loop = c.loop-number in step_read_names_below args.symbols (has (numeral args.wanted)) (has (numeral loop.known)) loop.number (step_at args.steps.now loop.number) _ start.requires.0 (sym c.read_step-reading.ensures ∙ ap as_step c.in-Step.is) in
+    let target_in_array : c.target_of-target.result < set_width = subst (λ t. t < set_width) (sym c.target_of-target.ensures) (target_below set_width c.in-Step.step (named)) in
+    omega (arith, target_in_array)
+
+pub bounds-rows-target : goal.bounds-rows-target
+bounds-rows-target c =
+    let named : NamesBelow set_width c.in-Step.step = let start = c in let args = start.args in let loop = c.loop-number in step_read_names_below args.symbols (has (numeral args.wanted)) (has (numeral loop.known)) loop.number (step_at args.steps.now loop.number) _ start.requires.0 (sym c.read_step-reading.ensures ∙ ap as_step c.in-Step.is) in
+    let target_in_array : c.target_of-target.result < set_width = subst (λ t. t < set_width) (sym c.target_of-target.ensures) (target_below set_width c.in-Step.step (named)) in
+    target_in_array
+
+pub offset_bounds-rows-source : goal.offset_bounds-rows-source
+offset_bounds-rows-source c =
+    let named : NamesBelow set_width c.in-Step.step = let start = c in let args = start.args in let loop = c.loop-number in step_read_names_below args.symbols (has (numeral args.wanted)) (has (numeral loop.known)) loop.number (step_at args.steps.now loop.number) _ start.requires.0 (sym c.read_step-reading.ensures ∙ ap as_step c.in-Step.is) in
+    let source_in_array : c.source_of-source.result < set_width = subst (λ s. s < set_width) (sym c.source_of-source.ensures) (source_below set_width c.in-Step.step (named)) in
+    omega (arith, source_in_array)
+
+pub bounds-rows-source : goal.bounds-rows-source
+bounds-rows-source c =
+    let named : NamesBelow set_width c.in-Step.step = let start = c in let args = start.args in let loop = c.loop-number in step_read_names_below args.symbols (has (numeral args.wanted)) (has (numeral loop.known)) loop.number (step_at args.steps.now loop.number) _ start.requires.0 (sym c.read_step-reading.ensures ∙ ap as_step c.in-Step.is) in
+    let source_in_array : c.source_of-source.result < set_width = subst (λ s. s < set_width) (sym c.source_of-source.ensures) (source_below set_width c.in-Step.step (named)) in
+    source_in_array
+
+pub offset_bounds-rows-target-in-loop-number : goal.offset_bounds-rows-target-in-loop-number
+offset_bounds-rows-target-in-loop-number c =
+    let named : NamesBelow set_width c.in-Step.step = let start = c in let args = start.args in let loop = c.loop-number in step_read_names_below args.symbols (has (numeral args.wanted)) (has (numeral loop.known)) loop.number (step_at args.steps.now loop.number) _ start.requires.0 (sym c.read_step-reading.ensures ∙ ap as_step c.in-Step.is) in
+    let target_in_array : c.target_of-target.result < set_width = subst (λ t. t < set_width) (sym c.target_of-target.ensures) (target_below set_width c.in-Step.step (named)) in
+    omega (arith, target_in_array)
+
+pub bounds-rows-target-in-loop-number : goal.bounds-rows-target-in-loop-number
+bounds-rows-target-in-loop-number c =
+    let named : NamesBelow set_width c.in-Step.step = let start = c in let args = start.args in let loop = c.loop-number in step_read_names_below args.symbols (has (numeral args.wanted)) (has (numeral loop.known)) loop.number (step_at args.steps.now loop.number) _ start.requires.0 (sym c.read_step-reading.ensures ∙ ap as_step c.in-Step.is) in
+    let target_in_array : c.target_of-target.result < set_width = subst (λ t. t < set_width) (sym c.target_of-target.ensures) (target_below set_width c.in-Step.step (named)) in
+    target_in_array
+
+pub with-known-requires : goal.with-known-requires
+with-known-requires c =
+    let named : NamesBelow set_width c.in-Step.step = let start = c in let args = start.args in let loop = c.loop-number in step_read_names_below args.symbols (has (numeral args.wanted)) (has (numeral loop.known)) loop.number (step_at args.steps.now loop.number) _ start.requires.0 (sym c.read_step-reading.ensures ∙ ap as_step c.in-Step.is) in
+    let target_in_array : c.target_of-target.result < set_width = subst (λ t. t < set_width) (sym c.target_of-target.ensures) (target_below set_width c.in-Step.step (named)) in
+    target_in_array
+
+pub with-sources-requires : goal.with-sources-requires
+with-sources-requires c =
+    let named : NamesBelow set_width c.in-Step.step = let start = c in let args = start.args in let loop = c.loop-number in step_read_names_below args.symbols (has (numeral args.wanted)) (has (numeral loop.known)) loop.number (step_at args.steps.now loop.number) _ start.requires.0 (sym c.read_step-reading.ensures ∙ ap as_step c.in-Step.is) in
+    let source_in_array : c.source_of-source.result < set_width = subst (λ s. s < set_width) (sym c.source_of-source.ensures) (source_below set_width c.in-Step.step (named)) in
+    source_in_array
+
+pub loop-number-preserved : goal.loop-number-preserved
+loop-number-preserved c =
+    let start = c in
+    let loop = c.loop-number in
+    let target = c.target_of-target in
+    let source = c.source_of-source in
+    let value = c.value_of in
+    let more = c.loop-number-test.true in
+    let reached = remaining_first start.args.count start.args.steps.now loop.invariant.1 more in (
+      omega arith,
+      rw (numerals_set loop.rows target.result value.result)
+          (remaining_next reached (sym c.read_step-reading.ensures ∙ ap as_step c.in-Step.is) start.requires.0 target.ensures source.ensures
+          (rw (get_or_numerals loop.rows target.result, get_or_numerals loop.rows source.result) at value.ensures) c.with-known.ensures c.with-sources.ensures),
+    )
+
+pub returns : goal.returns
+returns c =
+    let args = c.args in
+    remaining_none args.count args.steps.now c.loop-number.invariant.1 c.loop-number-test.false
