@@ -1,0 +1,19 @@
+-- `prices::sum_of` meets its contract. The invariant: the charges to come, added to the sum so far, come to the whole sum. Assumes nothing.
+use Rattle.std.proofs.Common.{◌≡◌, ℕ, ◌-◌, ◌≤◌, List, get_or}
+use lib.Bits.{bit_and}
+use lib.Ieee.{Float}
+use Rattle.bits.specs.BitSets.{count}
+use Rattle.bits.specs.Numerals.{numeral, numerals}
+use Rattle.prices.specs.Prices.{charge, state_of, add_charges}
+use Rattle.prices.specs.declared.DiskState.{DiskState}
+use Rattle.prices.proofs.sum_of.Given as goal
+
+-- The charges by strips
+abbrev pub charges : List DiskState → List ℕ → ℕ → ℕ → Float
+charges states strips read disk = charge (state_of states disk) (count (bit_and read (get_or strips disk 0)))
+
+abbrev pub invariant-loop-disk : goal.invariant-loop-disk
+invariant-loop-disk l = (l.disk ≤ l.disks) × (add_charges (charges l.states (numerals l.strips) (numeral l.read)) l.disk (l.disks - l.disk) l.sum ≡ add_charges (charges l.states (numerals l.strips) (numeral l.read)) 0 l.disks l.initial.sum)
+
+abbrev pub decreases-loop-disk : goal.decreases-loop-disk
+decreases-loop-disk l = l.disks - l.disk
