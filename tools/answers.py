@@ -71,6 +71,17 @@ def fn_params(crate, fn):
         return [re.sub(r"^(mut |&mut |&)", "", q.split(':')[0].strip()) for q in parts]
     return []
 
+def clause_path(digits, fields):
+    """'.1.1.0' through pairs that stood for the clauses `fields`: the field, and what is left."""
+    ds = digits.strip('.').split('.')
+    at, last = 0, len(fields) - 1
+    while ds and at < last:
+        d = int(ds.pop(0))
+        if d == 0: break
+        if d > 1: at = min(d, last); break
+        at += 1
+    return '.' + fields[at] + ''.join('.' + d for d in ds)
+
 def map_paths(body, n, stats, params=()):
     steps = {}
     for old, _, (o, new), callee, _ in n['places']:
@@ -105,7 +116,7 @@ def map_paths(body, n, stats, params=()):
     for (pn, _, (o, new), callee, _), cl in zip(n['places'], n['clauses']):
         if cl and cl.get('fields'):
             fs = cl['fields']
-            body = re.sub(r"(\." + re.escape(new) + r"\.ensures)\.(\d+)", lambda m: m.group(1) + '.' + fs[int(m.group(2))] if int(m.group(2)) < len(fs) else m.group(0), body)
+            body = re.sub(r"(\." + re.escape(new) + r"\.ensures)((?:\.\d+)+)", lambda m: m.group(1) + clause_path(m.group(2), fs), body)
     for m in re.finditer(r"let\s+(" + ID + r")\s*=\s*(?:" + alt + r")\.(" + ID + r")\s+in", body):
         for (pn, _, (o, new), callee, _), cl in zip(n['places'], n['clauses']):
             if new == m.group(2) and cl and cl.get('fields'):

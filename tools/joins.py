@@ -3,6 +3,16 @@
 GENERATED is what `rt check --generated GENERATED` writes. w.N is the Nth field of that arm's record."""
 import json, os, re, sys
 
+def clause_path(digits, fields):
+    ds = digits.strip('.').split('.')
+    at, last = 0, len(fields) - 1
+    while ds and at < last:
+        d = int(ds.pop(0))
+        if d == 0: break
+        if d > 1: at = min(d, last); break
+        at += 1
+    return '.' + fields[at] + ''.join('.' + d for d in ds)
+
 def lts(gen, crate, dotted):
     p = os.path.join(gen, f"Rattle-{crate}-proofs", *dotted.split('.'), 'Lts.antt')
     return open(p, encoding='utf8').read() if os.path.exists(p) else ''
@@ -93,8 +103,8 @@ def main():
                 for (pn, _, (o, new), callee, _), cl in zip(n['places'], n['clauses']):
                     if cl and cl.get('fields'):
                         fs = cl['fields']
-                        for m in set(re.findall(r"let\s+([\w-]+)\s*=\s*c\." + re.escape(new) + r"\.ensures\s+in", t)):
-                            t = re.sub(r"(?<![\w'.-])" + re.escape(m) + r"\.(\d+)\b", lambda q: m + '.' + fs[int(q.group(1))] if int(q.group(1)) < len(fs) else q.group(0), t)
+                        for m in set(re.findall(r"let\s+([\w'-]+)\s*=\s*c\." + re.escape(new) + r"\.ensures\s+in", t)):
+                            t = re.sub(r"(?<![\w'.-])" + re.escape(m) + r"((?:\.\d+)+)\b", lambda q: m + clause_path(q.group(1), fs), t)
             st = steps(lts(gen, crate, dotted))
             used = []
             pos = 0
