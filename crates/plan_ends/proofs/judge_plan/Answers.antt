@@ -11,12 +11,11 @@ use Rattle.plan_sheets.specs.PlanSheets.{sheet_steps}
 use Rattle.plans.specs.Judgement.{SetsWithin, judgement}
 use Rattle.plans.proofs.EndLaws.{body_by_sets, sets_by_code}
 use Rattle.plans.proofs.JudgementLaws.{lost_below, first_disk_below, plan_sets}
-use Rattle.plan_ends.proofs.judge_plan.Statement.{statement}
-use Rattle.plan_ends.proofs.judge_plan.Tie as tie
+use Rattle.plan_ends.proofs.judge_plan.Goals as goal
 
-loss_of_requires : tie.Need-loss_of_requires
-loss_of_requires c κs =
-    let start = c.before.before.before.before.before in
+pub loss_of-requires : goal.loss_of-requires
+loss_of-requires c =
+    let start = c in
     let pre = start.requires.0 in
     let layout = start.args.code.layout in (
       layout_within (linear start.args.code) pre.within,
@@ -25,9 +24,9 @@ loss_of_requires c κs =
       λ i h. omega (arith, lost_below layout start.args.disks.now (get_or start.args.list.now i 0) (pre.list_good.each_allowed i h), pre.within.symbols_to),
     )
 
-judge_requires : tie.Need-judge_requires
-judge_requires c κs =
-    let start = c.before.before.before.before.before.before in
+pub judge-requires : goal.judge-requires
+judge-requires c =
+    let start = c in
     let pre = start.requires.0 in
     let layout = start.args.code.layout in
     let disks = start.args.disks.now in
@@ -35,20 +34,17 @@ judge_requires c κs =
     let edition = start.args.head.edition in
     let loss = c.loss_of in
     let sets = plan_sets layout pre.within.height_from disks edition pre.disks_good list pre.list_good in (
-      subst (λ (n : ℕ). n ≤ set_width) (sym loss.ensures.0) (omega (arith, pre.within.symbols_to)),
-      subst (λ (n : ℕ). SetsWithin n (has (numeral loss.result.survivors)) (has (numeral loss.result.wanted)) loss.result.origin) (sym loss.ensures.0)
-          (sets_by_code layout disks list edition sets (numeral loss.result.survivors) (numeral loss.result.wanted) loss.ensures.1.0 loss.ensures.1.1.0 loss.ensures.1.1.1),
+      subst (λ (n : ℕ). n ≤ set_width) (sym loss.ensures.symbols) (omega (arith, pre.within.symbols_to)),
+      subst (λ (n : ℕ). SetsWithin n (has (numeral loss.result.survivors)) (has (numeral loss.result.wanted)) loss.result.origin) (sym loss.ensures.symbols)
+          (sets_by_code layout disks list edition sets (numeral loss.result.survivors) (numeral loss.result.wanted) loss.ensures.survivors loss.ensures.wanted loss.ensures.origin),
       start.requires.1,
     )
 
-returns : tie.Need-returns
+pub returns : goal.returns
 returns c =
-    let args = c.before.before.before.before.before.before.before.args in
-    let loss = c.before.loss_of in
+    let args = c.args in
+    let loss = c.loss_of in
     let steps = sheet_steps args.step_count args.steps.now in
     c.judge.ensures
-    ∙ ap (λ (n : ℕ). judgement (numerals args.code.rows) n (has (numeral loss.result.survivors)) (has (numeral loss.result.wanted)) loss.result.origin steps args.head.reads) loss.ensures.0
-    ∙ body_by_sets (linear args.code) args.disks.now (record { head = args.head; failed = args.disks.now; wanted = args.list.now; steps = steps }) (numeral loss.result.survivors) (numeral loss.result.wanted) loss.ensures.1.0 loss.ensures.1.1.0 loss.ensures.1.1.1
-
-pub judge_plan_spec : {M : Type 1} → statement M
-judge_plan_spec = tie.close (tie.spec loss_of_requires judge_requires returns)
+    ∙ ap (λ (n : ℕ). judgement (numerals args.code.rows) n (has (numeral loss.result.survivors)) (has (numeral loss.result.wanted)) loss.result.origin steps args.head.reads) loss.ensures.symbols
+    ∙ body_by_sets (linear args.code) args.disks.now (record { head = args.head; failed = args.disks.now; wanted = args.list.now; steps = steps }) (numeral loss.result.survivors) (numeral loss.result.wanted) loss.ensures.survivors loss.ensures.wanted loss.ensures.origin
