@@ -7,17 +7,20 @@ use native.Mathlib.Numerals.{add-one}
 use native.Mathlib.Omega.{arith}
 use lib.Bits.{bit_or, bit_xor}
 use lib.Ieee.{Float, lt}
-use lib.ListN.{length, get_or, set, take, length-map, length-take}
+use lib.ListN.{length, get_or, set, take, length-take}
 use lib.Seq.{get_or-take, length-take-le, get_or-set_same, get_or-set_other, set_out}
 use native.Mathlib.Decide.{dec_lt}
 use borrow.Author.Tests.{eqb-true, eqb-false}
 use lib.Dec.{eqb}
-use denote.Laws.{Is}
-use denote.Struct.Declared.{row}
+use denote.Laws.{Is, valss}
+use denote.Struct.Declared.{fields, row}
 use mir.Val.{Val}
 use Rattle.bits.specs.BitSets.{has}
 use Rattle.bits.specs.Numerals.{set_width, numerals}
-use Rattle.bits.proofs.NumeralLaws.{length_numerals}
+use Rattle.bits.proofs.NumeralLaws.{array_length, length_numerals}
+use Rattle.solve.proofs.set_lists.SetList.TheLaws.{the_laws}
+use borrow.Struct.Member.{are_at}
+use denote.Struct.Laws.{spells, owed}
 use Rattle.solve.specs.declared.set_lists.SetList.{SetList}
 use Rattle.solve.specs.contracts.set_lists.SetList.{the_type}
 use Rattle.bits.specs.Lists.{first_from}
@@ -38,7 +41,7 @@ use Rattle.swaps.proofs.UnionLaws.{read_with}
 
 -- A list that a function is handed holds as many sets as its type says
 pub list_length : (list : SetList) (vs : List Val) → Is (row the_type) list vs → length (numerals list.sets) ≡ set_width
-list_length list vs good = length_numerals list.sets ∙ sym (length-map list.sets _) ∙ good.1.1.1.0.1.0.1
+list_length list vs good = length_numerals list.sets ∙ array_length list.sets _ (are_at (fields the_type) (the_type.to list) (valss (fields the_type) (spells the_type.parts the_laws) (the_type.to list)) 1 (owed the_type the_laws list vs good))
 
 -- The terms with the first so many equations
 abbrev pub listed_terms : Layout → List DiskState → List ℕ → ℕ → (ℕ → Bool) → Terms

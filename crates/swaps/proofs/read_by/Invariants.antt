@@ -1,0 +1,14 @@
+-- `swaps::read_by` meets its contract. The invariant: what is read so far and by the sets to come is what all read. Assumes nothing.
+use mathlib.Core.Path.{◌≡◌}
+use Prim.Native.Nat.{◌-◌, ◌≤◌}
+use lib.Bits.{bit_or}
+use lib.ListN.{drop}
+use Rattle.bits.specs.Numerals.{set_width, numeral, numerals}
+use Rattle.swaps.specs.Swaps.{read_by}
+use Rattle.swaps.proofs.read_by.Given as goal
+
+abbrev pub invariant-loop-s : goal.invariant-loop-s
+invariant-loop-s l = (l.s ≤ set_width) × (bit_or (numeral l.read) (read_by (drop l.s (numerals l.sets))) ≡ read_by (numerals l.sets))
+
+abbrev pub decreases-loop-s : goal.decreases-loop-s
+decreases-loop-s l = set_width - l.s
