@@ -1,0 +1,24 @@
+use native.Mathlib.Omega.{arith}
+use Rattle.soundness.proofs.ByteLaws.{zero_more, first_nonzero_none, first_nonzero_found}
+use Rattle.soundness.proofs.columns.first_nonzero.Goals as goal
+
+pub returns-then-union_of-eq0 : goal.returns-then-union_of-eq0
+returns-then-union_of-eq0 c = first_nonzero_none _ _ (omega arith) (omega arith) (c.union_of.ensures c.if-union_of-eq0.true)
+
+pub loop-i-init : goal.loop-i-init
+loop-i-init c = (omega arith, λ j h. absurd (omega arith))
+
+pub returns-then-bytes-i-ne0 : goal.returns-then-bytes-i-ne0
+returns-then-bytes-i-ne0 c =
+    let bytes = c.args.bytes.now in
+    let i = c.loop-i.i in
+    first_nonzero_found bytes i (omega arith) c.loop-i.invariant.1 c.if-bytes-i-ne0.true
+
+pub loop-i-preserved : goal.loop-i-preserved
+loop-i-preserved c =
+    let bytes = c.args.bytes.now in
+    let i = c.loop-i.i in
+    (omega arith, zero_more bytes i c.loop-i.invariant.1 c.if-bytes-i-ne0.false)
+
+pub returns : goal.returns
+returns c = first_nonzero_none _ _ (omega arith) (omega arith) c.loop-i.invariant.1

@@ -1,0 +1,11 @@
+-- `soundness::columns::first_nonzero` meets its contract. The invariant: the bytes passed are zero. Assumes nothing.
+use Prim.Native.Nat.{◌-◌, ◌≤◌}
+use lib.ListN.{length}
+use Rattle.soundness.proofs.ByteLaws.{ZeroTo}
+use Rattle.soundness.proofs.columns.first_nonzero.Given as goal
+
+abbrev pub invariant-loop-i : goal.invariant-loop-i
+invariant-loop-i l = (l.i ≤ length l.bytes) × ZeroTo l.bytes l.i
+
+abbrev pub decreases-loop-i : goal.decreases-loop-i
+decreases-loop-i l = length l.bytes - l.i

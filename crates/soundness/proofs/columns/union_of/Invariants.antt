@@ -1,0 +1,12 @@
+-- `soundness::columns::union_of` meets its contract. The invariant: where the union so far is empty, the bytes passed are zero. Assumes nothing.
+use mathlib.Core.Path.{◌≡◌}
+use Prim.Native.Nat.{◌-◌, ◌≤◌}
+use lib.ListN.{length}
+use Rattle.soundness.proofs.ByteLaws.{ZeroTo}
+use Rattle.soundness.proofs.columns.union_of.Given as goal
+
+abbrev pub invariant-loop-i : goal.invariant-loop-i
+invariant-loop-i l = (l.i ≤ length l.bytes) × (l.all ≡ 0 → ZeroTo l.bytes l.i)
+
+abbrev pub decreases-loop-i : goal.decreases-loop-i
+decreases-loop-i l = length l.bytes - l.i
