@@ -130,7 +130,9 @@ def map_paths(body, n, stats, params=()):
     for (pn, _, (o, new), callee, _), cl in zip(n['places'], n['clauses']):
         if cl and cl.get('fields') and new:
             fs = cl['fields']
-            body = re.sub(r"(?<![\w'.-])((?:" + alt + r")\." + re.escape(new) + r"\.ensures)(?![\w'.-])", lambda m: whole(m.group(1), fs), body)
+            for x in set(re.findall(r"let\s+(" + ID + r")\s*=\s*(?:" + alt + r")\." + re.escape(new) + r"\.ensures\s+in", body)):
+                body = re.sub(r"(?<!let )(?<![\w'.-])" + re.escape(x) + r"(?![\w'.-]|\s*=)", lambda q: whole(x, fs), body)
+            body = re.sub(r"(?<![\w'.-])((?:" + alt + r")\." + re.escape(new) + r"\.ensures)(?![\w'.-])(?!\s+in\b)", lambda m: whole(m.group(1), fs), body)
             for m in set(re.findall(r"let\s+(" + ID + r")\s*=\s*(?:" + alt + r")\." + re.escape(new) + r"\s+in", body)):
                 body = re.sub(r"(?<![\w'.-])(" + re.escape(m) + r"\.ensures)(?![\w'.-])", lambda q: whole(q.group(1), fs), body)
     # what an arm says of the value
@@ -138,6 +140,15 @@ def map_paths(body, n, stats, params=()):
     def told(m):
         return '.' + (m.group(1)[1:] if m.group(1) else (arms[0] if arms else 'enum_told')) + '.is'
     body = re.sub(r"\.enum_told((?:-[\w]+)*?)-1\.given\.1\b", told, body)
+    # what the type says of a slice's entries
+    slices = []
+    for at in n.get('typed', []):
+        for p, st in at:
+            if re.match(r"shared_slice_known", st) and (p, st) not in slices: slices.append((p, st))
+    def entry(m):
+        k = int(m.group(1) or 1) - 1
+        return '.type_inv.' + slices[k][0] if k < len(slices) else m.group(0)
+    body = re.sub(r"\.shared_slice_known(?:-(\d+))?-1\.given(?= )", entry, body)
     def arg(m):
         return m.group(1) + argmap.get(m.group(2), m.group(2))
     body = re.sub(r"(\bargs\.)(" + ID + r")", arg, body)
