@@ -5,9 +5,20 @@ use lib.Bits.{bit_xor}
 use lib.ListN.{set}
 use lib.Seq.{get_or-take}
 use Rattle.bits.specs.BitSets.{has}
-use Rattle.bits.specs.Numerals.{set_width, numerals}
+use Rattle.bits.specs.Numerals.{set_width, numeral, numerals}
 use Rattle.bits.proofs.NumeralLaws.{get_or_numerals, numerals_set}
+use Rattle.codes.specs.Codes.{LayoutWithin}
 use Rattle.codes.specs.Layouts.{symbols_of}
+use Rattle.codes.specs.declared.Layout.{Layout}
+use Rattle.gf2.specs.Plans.{PlacesBelow}
+use Rattle.prices.specs.declared.DiskState.{DiskState}
+use Rattle.solve.specs.declared.set_lists.SetList.{SetList}
+use Rattle.bits.specs.declared.BitSet.{BitSet}
+use Rattle.swaps.specs.declared.Swap.{Swap}
+use Rattle.swaps.specs.declared.Swap.TheVariants.{Of}
+use mathlib.Core.Path.{◌≡◌}
+use mathlib.Core.List.{List}
+use Prim.Native.Nat.{◌≤◌}
 use Rattle.prices.specs.Prices.{sum_of}
 use Rattle.swaps.specs.Swaps.{Made, none}
 use Rattle.swaps.specs.InnerSwaps.{terms_of, Lowering}
@@ -46,53 +57,31 @@ returns-then-swaps-eq-MOST_SWAPS c =
     let loop = c.loop-target in
     stopped_if_found loop.invariant.1 c.if-swaps-eq-MOST_SWAPS.true loop.invariant.2 (swap_made)
 
-pub offset_bounds-sets-target : goal.offset_bounds-sets-target
-offset_bounds-sets-target c =
-    let terms = terms_of c.args.layout c.args.states c.args.equations c.args.wanted in
-    let swap_made : Made terms (numerals c.loop-target.sets) c.in-Of.target c.in-Of.equation = subst (Lowering terms (numerals c.loop-target.sets)) c.in-Of.is c.next_swap-swap.ensures in
-    let target_below : c.in-Of.target < symbols_of c.args.layout = c.requires.2 c.in-Of.target (swap_made).of_wanted in
-    let target_within : c.in-Of.target < set_width = omega (arith, target_below, c.requires.0.symbols_to) in
-    omega (arith, target_within)
+-- The swap that was found can be made: its symbol and its equation lie within a set
+found_within : (layout : Layout) (states : List DiskState) (equations : SetList) (wanted : BitSet) (sets : List ℕ) (swap : Swap) (target equation : ℕ)
+    → LayoutWithin layout → equations.count ≤ set_width → PlacesBelow (symbols_of layout) (has (numeral wanted))
+    → Lowering (terms_of layout states equations wanted) sets swap → swap ≡ Of target equation → (target < set_width) × (equation < set_width)
+found_within layout states equations wanted sets swap target equation within few below lowering is_of =
+    let swap_made : Made (terms_of layout states equations wanted) sets target equation = subst (Lowering (terms_of layout states equations wanted) sets) is_of lowering in
+    (omega (arith, below target swap_made.of_wanted, within.symbols_to), omega (arith, listed_below equations.count (numerals equations.sets) equation swap_made.of_list, few))
 
 pub bounds-sets-target : goal.bounds-sets-target
-bounds-sets-target c =
-    let terms = terms_of c.args.layout c.args.states c.args.equations c.args.wanted in
-    let swap_made : Made terms (numerals c.loop-target.sets) c.in-Of.target c.in-Of.equation = subst (Lowering terms (numerals c.loop-target.sets)) c.in-Of.is c.next_swap-swap.ensures in
-    let target_below : c.in-Of.target < symbols_of c.args.layout = c.requires.2 c.in-Of.target (swap_made).of_wanted in
-    let target_within : c.in-Of.target < set_width = omega (arith, target_below, c.requires.0.symbols_to) in
-    target_within
+bounds-sets-target c = (found_within c.args.layout c.args.states c.args.equations c.args.wanted (numerals c.loop-target.sets) c.next_swap-swap.result c.in-Of.target c.in-Of.equation c.requires.0 c.requires.1 c.requires.2 c.next_swap-swap.ensures c.in-Of.is).0
 
-pub offset_bounds-list-equation : goal.offset_bounds-list-equation
-offset_bounds-list-equation c =
-    let terms = terms_of c.args.layout c.args.states c.args.equations c.args.wanted in
-    let swap_made : Made terms (numerals c.loop-target.sets) c.in-Of.target c.in-Of.equation = subst (Lowering terms (numerals c.loop-target.sets)) c.in-Of.is c.next_swap-swap.ensures in
-    let equation_listed : c.in-Of.equation < c.args.equations.count = listed_below c.args.equations.count (numerals c.args.equations.sets) c.in-Of.equation (swap_made).of_list in
-    let equation_within : c.in-Of.equation < set_width = omega (arith, equation_listed, c.requires.1) in
-    omega (arith, equation_within)
+pub offset_bounds-sets-target : goal.offset_bounds-sets-target
+offset_bounds-sets-target c = omega (arith, bounds-sets-target c)
 
 pub bounds-list-equation : goal.bounds-list-equation
-bounds-list-equation c =
-    let terms = terms_of c.args.layout c.args.states c.args.equations c.args.wanted in
-    let swap_made : Made terms (numerals c.loop-target.sets) c.in-Of.target c.in-Of.equation = subst (Lowering terms (numerals c.loop-target.sets)) c.in-Of.is c.next_swap-swap.ensures in
-    let equation_listed : c.in-Of.equation < c.args.equations.count = listed_below c.args.equations.count (numerals c.args.equations.sets) c.in-Of.equation (swap_made).of_list in
-    let equation_within : c.in-Of.equation < set_width = omega (arith, equation_listed, c.requires.1) in
-    equation_within
+bounds-list-equation c = (found_within c.args.layout c.args.states c.args.equations c.args.wanted (numerals c.loop-target.sets) c.next_swap-swap.result c.in-Of.target c.in-Of.equation c.requires.0 c.requires.1 c.requires.2 c.next_swap-swap.ensures c.in-Of.is).1
 
-pub offset_bounds-sets-target-in-loop-target : goal.offset_bounds-sets-target-in-loop-target
-offset_bounds-sets-target-in-loop-target c =
-    let terms = terms_of c.args.layout c.args.states c.args.equations c.args.wanted in
-    let swap_made : Made terms (numerals c.loop-target.sets) c.in-Of.target c.in-Of.equation = subst (Lowering terms (numerals c.loop-target.sets)) c.in-Of.is c.next_swap-swap.ensures in
-    let target_below : c.in-Of.target < symbols_of c.args.layout = c.requires.2 c.in-Of.target (swap_made).of_wanted in
-    let target_within : c.in-Of.target < set_width = omega (arith, target_below, c.requires.0.symbols_to) in
-    omega (arith, target_within)
+pub offset_bounds-list-equation : goal.offset_bounds-list-equation
+offset_bounds-list-equation c = omega (arith, bounds-list-equation c)
 
 pub bounds-sets-target-in-loop-target : goal.bounds-sets-target-in-loop-target
-bounds-sets-target-in-loop-target c =
-    let terms = terms_of c.args.layout c.args.states c.args.equations c.args.wanted in
-    let swap_made : Made terms (numerals c.loop-target.sets) c.in-Of.target c.in-Of.equation = subst (Lowering terms (numerals c.loop-target.sets)) c.in-Of.is c.next_swap-swap.ensures in
-    let target_below : c.in-Of.target < symbols_of c.args.layout = c.requires.2 c.in-Of.target (swap_made).of_wanted in
-    let target_within : c.in-Of.target < set_width = omega (arith, target_below, c.requires.0.symbols_to) in
-    target_within
+bounds-sets-target-in-loop-target c = (found_within c.args.layout c.args.states c.args.equations c.args.wanted (numerals c.loop-target.sets) c.next_swap-swap.result c.in-Of.target c.in-Of.equation c.requires.0 c.requires.1 c.requires.2 c.next_swap-swap.ensures c.in-Of.is).0
+
+pub offset_bounds-sets-target-in-loop-target : goal.offset_bounds-sets-target-in-loop-target
+offset_bounds-sets-target-in-loop-target c = omega (arith, bounds-sets-target-in-loop-target c)
 
 pub sum_of-cost-requires-in-loop-target : goal.sum_of-cost-requires-in-loop-target
 sum_of-cost-requires-in-loop-target c = (c.requires.0, c.strips_of-strips.ensures)
