@@ -15,9 +15,8 @@ use Rattle.planning.proofs.work_from.Goals as goal
 
 pub eliminate_known-eliminated-requires : goal.eliminate_known-eliminated-requires
 eliminate_known-eliminated-requires c =
-    let symbols_small : c.args.loss.symbols ≤ set_width = omega (arith, c.requires.1.count_is, c.requires.0.within.symbols_to) in
-    let data_small : c.args.code.data_symbols ≤ set_width = omega (arith, c.requires.0.within.data_to) in
-    (symbols_small, data_small)
+    let within = c.requires.0.within in
+    (omega (arith, c.requires.1.count_is, within.symbols_to, within.data_to), omega (arith, c.requires.1.count_is, within.symbols_to, within.data_to))
 
 pub odd_pattern-pattern-requires : goal.odd_pattern-pattern-requires
 odd_pattern-pattern-requires c =
