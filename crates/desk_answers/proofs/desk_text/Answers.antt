@@ -1,0 +1,27 @@
+-- `desk_text` meets its contract: the refusal line alone, or the report. Assumes nothing.
+use Rattle.desk_answers.proofs.LineLaws.{text_if_refused, text_if_fine}
+use Rattle.texts.proofs.TextLaws.{holds_as}
+use mathlib.Core.Path.{ap}
+use Rattle.refusals.specs.Orders.{outcome}
+use Rattle.code_sheets.specs.CodeReading.{as_read}
+use Rattle.desk_answers.proofs.desk_text.Goals as goal
+
+pub returns-in_default : goal.returns-in_default
+returns-in_default c =
+    let told = c in
+    let read = told.read_code-reading in
+    let sheets = told in
+    holds_as _
+    (text_if_fine sheets.args.input.now _ (as_read read.result) sheets.code_sheet-sheet.ensures read.ensures.answer _ _ _
+    sheets.plan_sheet-plan.ensures c.byte_at-disk.ensures.0 c.check.ensures.answer (ap outcome told.in_default.is))
+    c.report.ensures
+
+pub returns : goal.returns
+returns c =
+    let told = c in
+    let read = told.read_code-reading in
+    let sheets = told in
+    holds_as _
+    (text_if_refused sheets.args.input.now _ (as_read read.result) sheets.code_sheet-sheet.ensures read.ensures.answer _
+    (ap outcome told.in-Refused.is))
+    c.refusal_text.ensures
