@@ -1,0 +1,67 @@
+-- `fewest_planner::work::work_out_fewest` meets its contract: the work from a smallest set of survivors that is enough. Assumes nothing.
+use mathlib.Core.Path.{sym, ◌∙◌, subst}
+use Prim.Native.Nat.{ℕ}
+use native.Mathlib.Omega.{arith}
+use lib.ListN.{take}
+use Rattle.bits.specs.Numerals.{numeral}
+use Rattle.codes.specs.Codes.{LinearCode, linear}
+use Rattle.codes.proofs.LimitLaws.{layout_within}
+use Rattle.gf2.specs.Selection.{Below}
+use Rattle.plan_requests.specs.PlanRequests.{Asked}
+use Rattle.planning.specs.Planning.{as_planned}
+use Rattle.planning.proofs.ResultLaws.{listed_small, disks_below}
+use Rattle.planning.proofs.WorkLaws.{asked_is_lost}
+use Rattle.plans.proofs.JudgementLaws.{matrix_below, survives_below, lost_below}
+use Rattle.fewest_planner.proofs.ReadLaws.{fewest_for, worked_fewest}
+use Rattle.fewest_planner.proofs.work.work_out_fewest.Goals as goal
+
+pub lost_symbols-gone-requires : goal.lost_symbols-gone-requires
+lost_symbols-gone-requires c =
+    let code : LinearCode = linear c.args.code in
+    let asked : Asked = record { edition = c.args.edition; disks = c.args.disks.now; wanted = c.args.list.now } in
+    (layout_within code c.requires.within, disks_below code asked c.requires)
+
+pub loss_of-loss-requires : goal.loss_of-loss-requires
+loss_of-loss-requires c =
+    let code : LinearCode = linear c.args.code in
+    let asked : Asked = record { edition = c.args.edition; disks = c.args.disks.now; wanted = c.args.list.now } in (
+      layout_within code c.requires.within,
+      disks_below code asked c.requires 0 c.requires.disks_good.count_from,
+      c.lost_symbols-gone.ensures.lost,
+      listed_small code asked c.requires,
+    )
+
+pub fewest-chosen-requires : goal.fewest-chosen-requires
+fewest-chosen-requires c =
+    let code : LinearCode = linear c.args.code in
+    let asked : Asked = record { edition = c.args.edition; disks = c.args.disks.now; wanted = c.args.list.now } in
+    let within = c.requires.within in
+    let loss = c.loss_of-loss.ensures in (
+      omega (arith, loss.symbols, within.symbols_to),
+      omega (arith, within.data_to),
+      subst (λ (m : ℕ). Below code.data_symbols (take m code.rows)) (sym loss.symbols) (matrix_below code within),
+      λ s h. omega (arith, loss.symbols, survives_below code.layout asked.disks s (sym (loss.survivors s) ∙ h)),
+      λ s h. omega (arith, loss.symbols, lost_below code.layout asked.disks s (asked_is_lost code asked c.requires s (sym (loss.wanted s) ∙ h))),
+    )
+
+pub work_from-requires : goal.work_from-requires
+work_from-requires c =
+    let loss = c.loss_of-loss.ensures in (
+      c.requires,
+      record {
+        count_is = loss.symbols;
+        wanted_are = loss.wanted;
+        known_survive = λ s h. sym (loss.survivors s) ∙ c.fewest-chosen.ensures.within s h;
+      },
+    )
+
+pub returns : goal.returns
+returns c =
+    let code : LinearCode = linear c.args.code in
+    let asked : Asked = record { edition = c.args.edition; disks = c.args.disks.now; wanted = c.args.list.now } in
+    let loss = c.loss_of-loss in
+    let worked = c.work_from in
+    let all = worked_fewest code asked c.requires c.args.branchings _
+    (fewest_for code asked loss.result.symbols (numeral loss.result.survivors) (numeral loss.result.wanted) c.args.branchings loss.ensures.symbols loss.ensures.survivors loss.ensures.wanted
+    c.fewest-chosen.ensures)
+    c.args.buffer.now _ (as_planned worked.result) worked.ensures in record { worked = all.0; fewest = all.1 }
