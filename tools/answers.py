@@ -192,7 +192,7 @@ def as_record(body, fields):
     if parts and len(parts) == len(fields):
         return head + 'record { ' + '; '.join(f"{f} = {p.strip()}" for f, p in zip(fields, parts)) + ' }'
     if re.match(r"λ|search|omega|grind|elim|⊎_elim|rw|simp|subst|absurd", last): return None
-    return head + 'let all = ' + last + ' in record { ' + '; '.join(f"{f} = all.{i}" for i, f in enumerate(fields)) + ' }'
+    return head + 'let all = ' + last + ' in record { ' + '; '.join(f"{f} = all" + '.1' * i + ('.0' if i < len(fields) - 1 else '') for i, f in enumerate(fields)) + ' }'
 
 def with_helpers(body, inl):
     """each helper that took a place is a `let` of the answers that cite it"""
