@@ -35,6 +35,7 @@ use Rattle.prices.specs.declared.DiskState.{DiskState}
 some_if_member : (list : List ℕ) (s : ℕ) → Memᴰ s list → 1 ≤ length list
 some_if_member (entry ∷ list) s (Memᴰ.head same) = omega arith
 some_if_member (entry ∷ list) s (Memᴰ.tail m) = omega arith
+some_if_member [] s there = elim there [ ]
 
 -- An entry of a list is listed
 listed_entry : (list : List ℕ) (i : ℕ) → i < length list → listed list (get_or list i 0) ≡ true

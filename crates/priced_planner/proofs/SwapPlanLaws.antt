@@ -1,7 +1,7 @@
 -- Steps from sets of survivors read those sets alone, and swaps keep the sets right. Assumes nothing.
 use mathlib.Core.Path.{◌≡◌, refl, sym, ap, ap₂, ◌∙◌, subst, fun_ext}
 use mathlib.Core.Bool.{Bool, true, false, cond, not, true≢false}
-use mathlib.Core.List.{List, ◌∷◌, Memᴰ}
+use mathlib.Core.List.{List, [], ◌∷◌, Memᴰ}
 use Prim.Native.Nat.{ℕ, zero, suc, ◌+◌, ◌^◌, ◌≤◌, ◌<◌}
 use native.Mathlib.Nat.{pow-succ'}
 use native.Mathlib.Omega.{arith}
@@ -48,6 +48,7 @@ reads_target subset count (u ∷ us) t s below (Memᴰ.head same) chosen =
 reads_target subset count (u ∷ us) t s below (Memᴰ.tail m) chosen =
     read_by_any_append s (fill_from u 0 count (subset u)) (plan_of subset count us)
     ∙ or_true_if_right (read_by_any s (fill_from u 0 count (subset u))) (read_by_any s (plan_of subset count us)) (reads_target subset count us t s below m chosen)
+reads_target subset count [] t s below there chosen = elim there [ ]
 
 -- A number is below that power of two
 below_power : (n : ℕ) → n < 2 ^ n

@@ -76,6 +76,7 @@ listed_if_member : (list : List ℕ) (s : ℕ) → Memᴰ s list → listed list
 unfolding listed
 listed_if_member (entry ∷ list) s (Memᴰ.head same) = or_true_if_left (eqb s entry) (listed list s) (eq-eqb s entry same)
 listed_if_member (entry ∷ list) s (Memᴰ.tail m) = or_true_if_right (eqb s entry) (listed list s) (listed_if_member list s m)
+listed_if_member [] s there = elim there [ ]
 
 -- The list of those that pass lists exactly them
 pub listed_symbols_in : (test : ℕ → Bool) (count s : ℕ) → listed (symbols_in test 0 count) s ≡ (ltb s count && test s)

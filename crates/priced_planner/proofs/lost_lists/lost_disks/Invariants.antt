@@ -1,0 +1,13 @@
+-- `priced_planner::lost_lists::lost_disks` meets its contract. The invariant: the set has the disks asked about, and those away among the disks passed. Assumes nothing.
+use mathlib.Core.Path.{◌≡◌}
+use Prim.Native.Nat.{ℕ, ◌-◌, ◌≤◌}
+use Rattle.bits.specs.BitSets.{has}
+use Rattle.bits.specs.Numerals.{numeral}
+use Rattle.priced_planner.specs.PricedPlanner.{is_lost}
+use Rattle.priced_planner.proofs.lost_lists.lost_disks.Given as goal
+
+abbrev pub invariant-loop-disk : goal.invariant-loop-disk
+invariant-loop-disk l = (l.disk ≤ l.disks) × ((d : ℕ) → has (numeral l.lost) d ≡ is_lost l.asked l.states l.disk d)
+
+abbrev pub decreases-loop-disk : goal.decreases-loop-disk
+decreases-loop-disk l = l.disks - l.disk
