@@ -7,7 +7,7 @@ fn main() {
     let here = std::env::var("CARGO_MANIFEST_DIR").expect("cargo names the package's folder");
     let root = Path::new(&here).parent().expect("the package lies in the repository");
     if let Err(error) = Command::new("rt").arg("version").output() {
-        println!("cargo::error=rt, Rattle's toolchain (rattle-kit-5), can't be run: {error}");
+        println!("cargo::error=rt, Rattle's toolchain (rattle-kit-13f), can't be run: {error}");
         println!("cargo::error=It was looked for in PATH: {}", std::env::var("PATH").unwrap_or_default());
         println!("cargo::error=It proves the library that this crate links, which takes some minutes the first time.");
         return;
