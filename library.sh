@@ -23,7 +23,7 @@ case $* in
     cd "crates/$2"
     log=../../target/log/$2.out
     : >"$log"
-    rt lib >>"$log" 2>&1 || { cat "$log"; exit 1; }
+    rt lib >>"$log" 2>&1 || { echo "rt: $2 NOT PROVED" >>"$log"; cat "$log"; exit 1; }
     echo "rt: $2 proved" | tee -a "$log"
     exit ;;
 *) echo "usage: sh library.sh [--crates]" >&2 && exit 2 ;;

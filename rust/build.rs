@@ -22,6 +22,14 @@ fn main() {
     }
     println!("cargo:rustc-link-search=native={}", root.join("target/staticlib").display());
     println!("cargo:rustc-link-lib=static=capi");
-    println!("cargo:rerun-if-changed={}", root.join("crates").display());
     println!("cargo:rerun-if-changed={}", root.join("crates.txt").display());
+    // a crate's files, but not out/, where rt keeps its work
+    for krate in std::fs::read_dir(root.join("crates")).expect("crates/ can be read") {
+        for part in ["src", "specs", "proofs"] {
+            let folder = krate.as_ref().expect("crates/ can be read").path().join(part);
+            if folder.exists() {
+                println!("cargo:rerun-if-changed={}", folder.display());
+            }
+        }
+    }
 }

@@ -144,7 +144,7 @@ def test_refused(repository: Repository) -> None:
     repository.goes("crates-go")(0)
     status, out, aside = repository.elsewhere(REFUSED="second")
     assert (status, out) == (1, ""), (status, out, aside)
-    assert aside.endswith("demo.sh: the library isn't proved\n") and "logic=not-proved\n" in aside, aside
+    assert aside.endswith("demo.sh: the library isn't proved\n") and "rt: second NOT PROVED\n" in aside, aside
 
 
 def test_terminal(repository: Repository) -> None:
