@@ -1,17 +1,33 @@
-use mathlib.Core.Path.{sym, ap, ◌∙◌, subst}
-use Prim.Native.Nat.{◌<◌}
+use mathlib.Core.Path.{◌≡◌, sym, ap, ◌∙◌, subst}
+use mathlib.Core.Bool.{Bool}
+use Prim.Native.Nat.{ℕ, ◌≤◌, ◌<◌}
 use native.Mathlib.Nat.{sub-zero}
 use native.Mathlib.Omega.{arith}
 use Rattle.bits.specs.BitSets.{has}
 use Rattle.bits.specs.Numerals.{set_width, numeral, numerals}
 use Rattle.bits.proofs.NumeralLaws.{get_or_numerals, numerals_set}
-use Rattle.gf2.specs.Plans.{NamesBelow}
+use Rattle.gf2.specs.Plans.{target}
+use Rattle.gf2.specs.declared.Step.{Step}
 use Rattle.gf2.proofs.PlanLaws.{target_below}
-use Rattle.plan_sheets.specs.PlanSheets.{step_at, sheet_steps}
-use Rattle.plans.specs.InnerProgress.{as_step}
+use Rattle.plan_sheets.specs.PlanSheets.{sheet_steps}
+use Rattle.plan_sheets.specs.declared.step.SheetStep.{SheetStep}
+use Rattle.plans.specs.Judgement.{step_reading}
+use Rattle.plans.specs.InnerProgress.{as_step, source_of}
 use Rattle.plans.proofs.StepLaws.{remaining_all, remaining_first, remaining_next, remaining_refused, remaining_none, step_read_names_below, source_below}
-use Rattle.refusals.specs.Orders.{outcome_of}
+use Rattle.refusals.specs.Orders.{Gives, outcome_of}
 use Rattle.steps.proofs.run_on_rows.Goals as goal
+
+-- A step that was read writes a place of the array
+target_in_array : {symbols place : ℕ} (wanted known : ℕ → Bool) (number : ℕ) (s : SheetStep) {p : Step} → symbols ≤ set_width
+    → step_reading symbols wanted known number s ≡ Gives p → place ≡ target p → place < set_width
+target_in_array {symbols} wanted known number s {p} fits read is =
+    subst (λ n. n < set_width) (sym is) (target_below set_width p (step_read_names_below symbols wanted known number s p fits read))
+
+-- A step that was read reads a place of the array
+source_in_array : {symbols place : ℕ} (wanted known : ℕ → Bool) (number : ℕ) (s : SheetStep) {p : Step} → symbols ≤ set_width
+    → step_reading symbols wanted known number s ≡ Gives p → place ≡ source_of p → place < set_width
+source_in_array {symbols} wanted known number s {p} fits read is =
+    subst (λ n. n < set_width) (sym is) (source_below set_width p (step_read_names_below symbols wanted known number s p fits read))
 
 pub loop-number-init : goal.loop-number-init
 loop-number-init c =
@@ -29,52 +45,28 @@ returns-in_default c =
     remaining_refused reached (c.verdict_of.ensures ∙ ap outcome_of refused) (sym c.read_step-reading.ensures ∙ refused)
 
 pub offset_bounds-rows-target : goal.offset_bounds-rows-target
-offset_bounds-rows-target c =
-    let named : NamesBelow set_width c.in-Step.step = let start = c in let args = start.args in let loop = c.loop-number in step_read_names_below args.symbols (has (numeral args.wanted)) (has (numeral loop.known)) loop.number (step_at args.steps.now loop.number) _ start.requires.0 (sym c.read_step-reading.ensures ∙ ap as_step c.in-Step.is) in
-    let target_in_array : c.target_of-target.result < set_width = subst (λ t. t < set_width) (sym c.target_of-target.ensures) (target_below set_width c.in-Step.step (named)) in
-    omega (arith, target_in_array)
+offset_bounds-rows-target c = omega (arith, target_in_array _ _ _ _ c.requires.0 (sym c.read_step-reading.ensures ∙ ap as_step c.in-Step.is) c.target_of-target.ensures)
 
 pub bounds-rows-target : goal.bounds-rows-target
-bounds-rows-target c =
-    let named : NamesBelow set_width c.in-Step.step = let start = c in let args = start.args in let loop = c.loop-number in step_read_names_below args.symbols (has (numeral args.wanted)) (has (numeral loop.known)) loop.number (step_at args.steps.now loop.number) _ start.requires.0 (sym c.read_step-reading.ensures ∙ ap as_step c.in-Step.is) in
-    let target_in_array : c.target_of-target.result < set_width = subst (λ t. t < set_width) (sym c.target_of-target.ensures) (target_below set_width c.in-Step.step (named)) in
-    target_in_array
+bounds-rows-target c = target_in_array _ _ _ _ c.requires.0 (sym c.read_step-reading.ensures ∙ ap as_step c.in-Step.is) c.target_of-target.ensures
 
 pub offset_bounds-rows-source : goal.offset_bounds-rows-source
-offset_bounds-rows-source c =
-    let named : NamesBelow set_width c.in-Step.step = let start = c in let args = start.args in let loop = c.loop-number in step_read_names_below args.symbols (has (numeral args.wanted)) (has (numeral loop.known)) loop.number (step_at args.steps.now loop.number) _ start.requires.0 (sym c.read_step-reading.ensures ∙ ap as_step c.in-Step.is) in
-    let source_in_array : c.source_of-source.result < set_width = subst (λ s. s < set_width) (sym c.source_of-source.ensures) (source_below set_width c.in-Step.step (named)) in
-    omega (arith, source_in_array)
+offset_bounds-rows-source c = omega (arith, source_in_array _ _ _ _ c.requires.0 (sym c.read_step-reading.ensures ∙ ap as_step c.in-Step.is) c.source_of-source.ensures)
 
 pub bounds-rows-source : goal.bounds-rows-source
-bounds-rows-source c =
-    let named : NamesBelow set_width c.in-Step.step = let start = c in let args = start.args in let loop = c.loop-number in step_read_names_below args.symbols (has (numeral args.wanted)) (has (numeral loop.known)) loop.number (step_at args.steps.now loop.number) _ start.requires.0 (sym c.read_step-reading.ensures ∙ ap as_step c.in-Step.is) in
-    let source_in_array : c.source_of-source.result < set_width = subst (λ s. s < set_width) (sym c.source_of-source.ensures) (source_below set_width c.in-Step.step (named)) in
-    source_in_array
+bounds-rows-source c = source_in_array _ _ _ _ c.requires.0 (sym c.read_step-reading.ensures ∙ ap as_step c.in-Step.is) c.source_of-source.ensures
 
 pub offset_bounds-rows-target-in-loop-number : goal.offset_bounds-rows-target-in-loop-number
-offset_bounds-rows-target-in-loop-number c =
-    let named : NamesBelow set_width c.in-Step.step = let start = c in let args = start.args in let loop = c.loop-number in step_read_names_below args.symbols (has (numeral args.wanted)) (has (numeral loop.known)) loop.number (step_at args.steps.now loop.number) _ start.requires.0 (sym c.read_step-reading.ensures ∙ ap as_step c.in-Step.is) in
-    let target_in_array : c.target_of-target.result < set_width = subst (λ t. t < set_width) (sym c.target_of-target.ensures) (target_below set_width c.in-Step.step (named)) in
-    omega (arith, target_in_array)
+offset_bounds-rows-target-in-loop-number c = omega (arith, target_in_array _ _ _ _ c.requires.0 (sym c.read_step-reading.ensures ∙ ap as_step c.in-Step.is) c.target_of-target.ensures)
 
 pub bounds-rows-target-in-loop-number : goal.bounds-rows-target-in-loop-number
-bounds-rows-target-in-loop-number c =
-    let named : NamesBelow set_width c.in-Step.step = let start = c in let args = start.args in let loop = c.loop-number in step_read_names_below args.symbols (has (numeral args.wanted)) (has (numeral loop.known)) loop.number (step_at args.steps.now loop.number) _ start.requires.0 (sym c.read_step-reading.ensures ∙ ap as_step c.in-Step.is) in
-    let target_in_array : c.target_of-target.result < set_width = subst (λ t. t < set_width) (sym c.target_of-target.ensures) (target_below set_width c.in-Step.step (named)) in
-    target_in_array
+bounds-rows-target-in-loop-number c = target_in_array _ _ _ _ c.requires.0 (sym c.read_step-reading.ensures ∙ ap as_step c.in-Step.is) c.target_of-target.ensures
 
 pub with-known-requires : goal.with-known-requires
-with-known-requires c =
-    let named : NamesBelow set_width c.in-Step.step = let start = c in let args = start.args in let loop = c.loop-number in step_read_names_below args.symbols (has (numeral args.wanted)) (has (numeral loop.known)) loop.number (step_at args.steps.now loop.number) _ start.requires.0 (sym c.read_step-reading.ensures ∙ ap as_step c.in-Step.is) in
-    let target_in_array : c.target_of-target.result < set_width = subst (λ t. t < set_width) (sym c.target_of-target.ensures) (target_below set_width c.in-Step.step (named)) in
-    target_in_array
+with-known-requires c = target_in_array _ _ _ _ c.requires.0 (sym c.read_step-reading.ensures ∙ ap as_step c.in-Step.is) c.target_of-target.ensures
 
 pub with-sources-requires : goal.with-sources-requires
-with-sources-requires c =
-    let named : NamesBelow set_width c.in-Step.step = let start = c in let args = start.args in let loop = c.loop-number in step_read_names_below args.symbols (has (numeral args.wanted)) (has (numeral loop.known)) loop.number (step_at args.steps.now loop.number) _ start.requires.0 (sym c.read_step-reading.ensures ∙ ap as_step c.in-Step.is) in
-    let source_in_array : c.source_of-source.result < set_width = subst (λ s. s < set_width) (sym c.source_of-source.ensures) (source_below set_width c.in-Step.step (named)) in
-    source_in_array
+with-sources-requires c = source_in_array _ _ _ _ c.requires.0 (sym c.read_step-reading.ensures ∙ ap as_step c.in-Step.is) c.source_of-source.ensures
 
 pub loop-number-preserved : goal.loop-number-preserved
 loop-number-preserved c =
