@@ -24,7 +24,7 @@ def needs(word):
 
 
 def snake(word):
-    word = re.sub(r"\bgetD\b", "get_or", word)
+    word = re.sub(r"\bgetD(?![a-z])", "get_or", word)
     out = []
     for part in word.split("-"):
         if re.match(r"[A-Z]", part):
@@ -91,10 +91,10 @@ APART = [
     ("crates/bits/proofs/CountLaws.antt", r"(?<![\w-])count-from(?![\w-])", "count-splits-from"),
     ("crates/recovery/proofs/RecoveryLaws.antt", r"(?<![\w-])all-below(?![\w-])", "all-below-holds"),
     ("crates/family_recovery/proofs/FamilyRecovery.antt", r"(?<![\w-])all-below(?![\w-])", "all-below-holds"),
-    ("crates/plans/proofs/WrittenLaws.antt", r"\bfirst_count = ", "count-known = "),
-    ("crates/plans/proofs/JudgementLaws.antt", r"\bfirst_count = ", "count-known = "),
-    ("crates/plans/proofs/JudgementLaws.antt", r"fits\.first_count\b", "fits.count-known"),
-    ("crates/plans/specs/Demand2.antt", r"pub first_count :", "pub count-known :"),
+    ("crates/plans/proofs/WrittenLaws.antt", r"\bfirst_count = ", "count-fits = "),
+    ("crates/plans/proofs/JudgementLaws.antt", r"\bfirst_count = ", "count-fits = "),
+    ("crates/plans/proofs/JudgementLaws.antt", r"fits\.first_count\b", "fits.count-fits"),
+    ("crates/plans/specs/Demand2.antt", r"pub first_count :", "pub count-fits :"),
 ]
 
 
@@ -108,9 +108,21 @@ def keep_apart():
             it.write(re.sub(old, new, text))
 
 
-# What port.py or a type's name within left in two spellings.
-MIXED = {w: w.replace("-", "_") if w == "L-positive" else w.replace("-", "_").lower() for w in (
-    "is_Known", "not_Chosen", "x_Fits", "Reads-Known", "L-positive", "parity_row_of_Q", "parity_row_of_P", "entry_of_of_Q", "entry_of_of_P")}
+# What port.py left in two spellings, or with an ending, where a name of the library had the same one.
+MIXED = {
+    "is_Known": "is_known",
+    "not_Chosen": "not_chosen",
+    "x_Fits": "x_fits",
+    "Reads-Known": "reads_known",
+    "L-positive": "L_positive",
+    "parity_row_of_Q": "parity_row_of_q",
+    "parity_row_of_P": "parity_row_of_p",
+    "entry_of_of_Q": "entry_of_of_q",
+    "entry_of_of_P": "entry_of_of_p",
+    "may_write_lem": "may_write",
+    "sum_is_lem": "sum_is",
+    "getD_tabulate": "get_or_tabulate",
+}
 
 
 def one_spelling():

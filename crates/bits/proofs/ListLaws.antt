@@ -19,11 +19,11 @@ unfolding tabulate
 length_tabulate zero entry = refl
 length_tabulate (suc size) entry = ap suc (length_tabulate size (λ i. entry (suc i)))
 
-pub get_d_tabulate : (size : ℕ) (entry : ℕ → ℕ) (i : ℕ) → i < size → get_or (tabulate size entry) i 0 ≡ entry i
+pub get_or_tabulate : (size : ℕ) (entry : ℕ → ℕ) (i : ℕ) → i < size → get_or (tabulate size entry) i 0 ≡ entry i
 unfolding tabulate
-get_d_tabulate zero entry i h = absurd (not-suc-le-zero h)
-get_d_tabulate (suc size) entry zero h = refl
-get_d_tabulate (suc size) entry (suc i) h = get_d_tabulate size (λ j. entry (suc j)) i (le_of_suc-le-suc h)
+get_or_tabulate zero entry i h = absurd (not-suc-le-zero h)
+get_or_tabulate (suc size) entry zero h = refl
+get_or_tabulate (suc size) entry (suc i) h = get_or_tabulate size (λ j. entry (suc j)) i (le_of_suc-le-suc h)
 
 pub get_or_tabulate_behind : (size : ℕ) (entry : ℕ → ℕ) (i : ℕ) → size ≤ i → get_or (tabulate size entry) i 0 ≡ 0
 unfolding tabulate

@@ -8,7 +8,7 @@ use lib.ListN.{length, get_or, set}
 use lib.Pow.{pow_pos}
 use Rattle.bits.specs.Lists.{tabulate}
 use Rattle.bits.specs.Numerals.{set_width}
-use Rattle.bits.proofs.ListLaws.{length_tabulate, get_d_tabulate, get_or_tabulate_behind}
+use Rattle.bits.proofs.ListLaws.{length_tabulate, get_or_tabulate, get_or_tabulate_behind}
 use Rattle.bits.proofs.PaddedLaws.{get_or_padded, length_padded, stored_to, stored_more, stored_all}
 use Rattle.codes.specs.Codes.{rows_of}
 
@@ -16,7 +16,7 @@ module _ (row : ℕ → ℕ) (count : ℕ) where
   -- Row s of a symbol
   pub get_or_rows_of : (s : ℕ) → s < count → get_or (rows_of count row) s 0 ≡ row s
   unfolding rows_of
-  get_or_rows_of s h = get_or_padded (tabulate count row) s ∙ get_d_tabulate count row s h
+  get_or_rows_of s h = get_or_padded (tabulate count row) s ∙ get_or_tabulate count row s h
 
   -- Rows behind the last symbol are empty
   pub get_or_rows_of_behind : (s : ℕ) → count ≤ s → get_or (rows_of count row) s 0 ≡ 0
@@ -43,7 +43,7 @@ module _ (row : ℕ → ℕ) (count : ℕ) where
     pub rows_more : {rows : List ℕ} (s : ℕ) → rows ≡ stored_to (tabulate count row) s → s < count → {next : ℕ} → next ≡ row s
         → set rows s next ≡ stored_to (tabulate count row) (s + 1)
     rows_more s so_far h e =
-        stored_more (tabulate count row) tabulated_fit s so_far (omega (arith, length_tabulate count row)) (e ∙ sym (get_d_tabulate count row s h))
+        stored_more (tabulate count row) tabulated_fit s so_far (omega (arith, length_tabulate count row)) (e ∙ sym (get_or_tabulate count row s h))
 
     -- All stored
     pub rows_all : {rows : List ℕ} (s : ℕ) → rows ≡ stored_to (tabulate count row) s → count ≤ s → rows ≡ rows_of count row

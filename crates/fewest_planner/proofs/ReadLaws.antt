@@ -54,27 +54,27 @@ keeps_later writable p steps known kept keeps s is_known used = by_place (eqb s 
 ready_kept : (writable : ℕ → Bool) (p : Step) (steps : List Step) (known kept : ℕ → Bool) → writable (target p) ≡ true → Keeps writable (p ∷ steps) known kept
     → ready p known ≡ true → ready p kept ≡ true
 unfolding read_by_any
-ready_kept writable (Clear t) steps known kept may_write_lem keeps h = refl
-ready_kept writable (Copy t s) steps known kept may_write_lem keeps h =
+ready_kept writable (Clear t) steps known kept may_write keeps h = refl
+ready_kept writable (Copy t s) steps known kept may_write keeps h =
     keeps s h (or_true_if_left ((eqb s s) || read_by_any s steps) (writable s) (or_true_if_left (eqb s s) (read_by_any s steps) (eq-eqb s s refl)))
-ready_kept writable (Add t s) steps known kept may_write_lem keeps h =
+ready_kept writable (Add t s) steps known kept may_write keeps h =
     and_true_if_both (kept t) (kept s)
-    (keeps t (and_left (known t) (known s) h) (or_true_if_right ((eqb s t) || read_by_any t steps) (writable t) may_write_lem))
+    (keeps t (and_left (known t) (known s) h) (or_true_if_right ((eqb s t) || read_by_any t steps) (writable t) may_write))
     (keeps s (and_right (known t) (known s) h) (or_true_if_left ((eqb s s) || read_by_any s steps) (writable s) (or_true_if_left (eqb s s) (read_by_any s steps) (eq-eqb s s refl))))
 
 uses_kept : {writable known : ℕ → Bool} {steps : List Step} → UsesOnlyKnown writable known steps → (kept : ℕ → Bool) → Keeps writable steps known kept → UsesOnlyKnown writable kept steps
 uses_kept done kept keeps = done
-uses_kept {writable} (next {known = known} {p = p} {ps = steps} may_write_lem is_ready rest) kept keeps =
-    next may_write_lem (ready_kept writable p steps known kept may_write_lem keeps is_ready)
+uses_kept {writable} (next {known = known} {p = p} {ps = steps} may_write is_ready rest) kept keeps =
+    next may_write (ready_kept writable p steps known kept may_write keeps is_ready)
     (uses_kept rest (extend kept (target p)) (keeps_later writable p steps known kept keeps))
 
 -- A place that may be written is filled with what is kept
 filled_kept : (writable : ℕ → Bool) (steps : List Step) (known kept : ℕ → Bool) → Keeps writable steps known kept → (t : ℕ) → writable t ≡ true
     → filled_after known steps t ≡ true → filled_after kept steps t ≡ true
 unfolding filled_after
-filled_kept writable [] known kept keeps t may_write_lem filled = keeps t filled (or_true_if_right (read_by_any t []) (writable t) may_write_lem)
-filled_kept writable (p ∷ steps) known kept keeps t may_write_lem filled =
-    filled_kept writable steps (extend known (target p)) (extend kept (target p)) (keeps_later writable p steps known kept keeps) t may_write_lem filled
+filled_kept writable [] known kept keeps t may_write filled = keeps t filled (or_true_if_right (read_by_any t []) (writable t) may_write)
+filled_kept writable (p ∷ steps) known kept keeps t may_write filled =
+    filled_kept writable steps (extend known (target p)) (extend kept (target p)) (keeps_later writable p steps known kept keeps) t may_write filled
 
 -- What an accepted plan reads of the known places is enough for the wanted ones, where none of these is known
 pub reads_enough : (rows : List ℕ) (known wanted : ℕ → Bool) (steps : List Step) → ((t : ℕ) → wanted t ≡ true → known t ≡ false)

@@ -28,12 +28,12 @@ pub none_onto_itself : {writable filled : ℕ → Bool} {steps : List Step} → 
     → ((s : ℕ) → writable s ≡ true → known s ≡ false) → ((s : ℕ) → read_by_any s steps ≡ true → known s ≡ true) → NoneOntoItself steps
 unfolding read_by_any
 none_onto_itself done known writes_lost reads_known p there = elim there [ ]
-none_onto_itself (next {p = first} {ps = rest} may_write_lem is_ready uses) known writes_lost reads_known p (Memᴰ.head same) =
+none_onto_itself (next {p = first} {ps = rest} may_write is_ready uses) known writes_lost reads_known p (Memᴰ.head same) =
     rw same
     (bool_cases (λ c. reads (target first) first ≡ c → c ≡ false)
-    (λ own. absurd (true≢false (sym (reads_known (target first) (or_true_if_left (reads (target first) first) _ own)) ∙ writes_lost (target first) may_write_lem)))
+    (λ own. absurd (true≢false (sym (reads_known (target first) (or_true_if_left (reads (target first) first) _ own)) ∙ writes_lost (target first) may_write)))
     (λ apart. refl) (reads (target first) first) refl)
-none_onto_itself (next {p = first} {ps = rest} may_write_lem is_ready uses) known writes_lost reads_known p (Memᴰ.tail m) =
+none_onto_itself (next {p = first} {ps = rest} may_write is_ready uses) known writes_lost reads_known p (Memᴰ.tail m) =
     none_onto_itself uses known writes_lost (λ s read. reads_known s (or_true_if_right (reads s first) (read_by_any s rest) read)) p m
 
 -- ------------------------------------------------------------------

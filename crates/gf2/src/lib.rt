@@ -1,8 +1,7 @@
 // The theory of plans, of elimination and of stripes over sets of bits, and the steps of a plan.
-
-// One step of a plan, over symbol numbers (document 01, the plan sheet).
 #![tactic(auto)]
 
+// One step of a plan, over symbol numbers (document 01, the plan sheet).
 #[derive(Clone, Copy)]
 pub enum Step {
     Clear { target: usize },

@@ -92,7 +92,7 @@ head_fits_if_fine code head none =
     let known = edition_known head.count head.edition (not-false _ none.0) (not-false _ none.1.0) in
     record {
       edition = known.0;
-      count_known = known.1;
+      count_fits = known.1;
       disks = eqb-true _ _ (not-false _ none.1.1.0);
       height = eqb-true _ _ (not-false _ none.1.1.1.0);
       data_symbols = eqb-true _ _ (not-false _ none.1.1.1.1.0);
@@ -101,7 +101,7 @@ head_fits_if_fine code head none =
 -- A head that fits has no fault
 head_fine_if_fits : (code : LinearCode) (head : PlanHead) → HeadFits code head → NoneHolds (head_faults code.layout code.data_symbols head)
 head_fine_if_fits code head fits =
-    let known = edition_passes head.count head.edition fits.edition fits.count_known in
+    let known = edition_passes head.count head.edition fits.edition fits.count_fits in
     (known.0, (known.1, (same_passes fits.disks, (same_passes fits.height, (same_passes fits.data_symbols, tt)))))
 
 module _ (layout : Layout) (disks : List ℕ) (edition : ℕ) (failed : List ℕ) where

@@ -49,7 +49,7 @@ module _ (count : ℕ) (some : 0 < count) where
 -- The head fits the code that it was written for
 pub head_fits_written : (code : LinearCode) (edition reads : ℕ) {failed wanted : List ℕ} → EditionFits edition failed wanted
     → HeadFits code (head_for edition code.layout code.data_symbols reads)
-head_fits_written code edition reads fits = record { edition = known fits; count_known = refl; disks = refl; height = refl; data_symbols = refl }
+head_fits_written code edition reads fits = record { edition = known fits; count_fits = refl; disks = refl; height = refl; data_symbols = refl }
   where
     known : {failed wanted : List ℕ} → EditionFits edition failed wanted → (edition ≡ 1) ⊎ (edition ≡ 2) ⊎ (edition ≡ 3)
     known (First e one none) = inl e

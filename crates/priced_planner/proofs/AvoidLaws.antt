@@ -47,8 +47,8 @@ uses_only_others : {writable known : ℕ → Bool} {steps : List Step} → UsesO
     → UsesOnlyKnown writable other steps
 unfolding read_by_any
 uses_only_others done other reads_stay writes_stay = done
-uses_only_others {writable} {known} (next {p = p} {ps = ps} may_write_lem is_ready later) other reads_stay writes_stay =
-    next may_write_lem (by_step p may_write_lem is_ready (λ s h. reads_stay s h))
+uses_only_others {writable} {known} (next {p = p} {ps = ps} may_write is_ready later) other reads_stay writes_stay =
+    next may_write (by_step p may_write is_ready (λ s h. reads_stay s h))
     (uses_only_others later (extend other (target p))
     (λ s h read. extended known other (target p) s (λ is_known. reads_stay s is_known (or_true_if_right (reads s p) (read_by_any s ps) read)) h)
     (λ s h writes. extended known other (target p) s (λ is_known. writes_stay s is_known writes) h))
@@ -87,7 +87,7 @@ source_known_or_written : {writable known : ℕ → Bool} {steps : List Step} �
     → (known s ≡ true) ⊎ (writable s ≡ true)
 unfolding read_by_any
 source_known_or_written done s read = absurd (true≢false (sym read))
-source_known_or_written {writable} {known} (next {p = p} {ps = ps} may_write_lem is_ready later) s read =
+source_known_or_written {writable} {known} (next {p = p} {ps = ps} may_write is_ready later) s read =
     by_step (λ h. source_known_or_written later s h) (reads s p) refl read
   where
     is_source : (q : Step) → reads s q ≡ true → ready q known ≡ true → known s ≡ true
@@ -96,7 +96,7 @@ source_known_or_written {writable} {known} (next {p = p} {ps = ps} may_write_lem
     is_source (Add t source) reads_it h = subst (λ (u : ℕ). known u ≡ true) (eqb-true source s reads_it) (and_right (known t) (known source) h)
 
     by_place : (here : Bool) → eqb s (target p) ≡ here → (here || known s) ≡ true → (known s ≡ true) ⊎ (writable s ≡ true)
-    by_place true q h = inr (subst (λ (u : ℕ). writable u ≡ true) (sym (eqb-true s (target p) q)) may_write_lem)
+    by_place true q h = inr (subst (λ (u : ℕ). writable u ≡ true) (sym (eqb-true s (target p) q)) may_write)
     by_place false q h = inl h
 
     by_later : (extend known (target p) s ≡ true) ⊎ (writable s ≡ true) → (known s ≡ true) ⊎ (writable s ≡ true)

@@ -11,7 +11,7 @@ use lib.Seq.{get_or-take, length-take-le}
 use Rattle.bits.specs.Numerals.{empty_set, numeral, numerals, padded}
 use Rattle.bits.specs.declared.BitSet.{BitSet}
 use Rattle.bits.proofs.Booleans.{bool_cases}
-use Rattle.bits.proofs.ListLaws.{length_tabulate, get_d_tabulate}
+use Rattle.bits.proofs.ListLaws.{length_tabulate, get_or_tabulate}
 use Rattle.bits.proofs.NumeralLaws.{get_or_numerals}
 use Rattle.bits.proofs.PaddedLaws.{take_padded}
 use Rattle.gf2.specs.InnerElimination.{back_substitute}
@@ -47,7 +47,7 @@ module _ (pivots surviving rows : List ℕ) (symbols : ℕ) (wanted : ℕ → Bo
   -- The subset of a wanted symbol, and none for another
   pub get_or_subsets : (t : ℕ) → t < symbols
       → get_or (wanted_subsets pivots surviving rows symbols wanted) t 0 ≡ cond (wanted t) (back_substitute pivots surviving (get_or rows t 0)) 0
-  get_or_subsets t h = get_d_tabulate symbols (λ u. cond (wanted u) (back_substitute pivots surviving (get_or rows u 0)) 0) t h
+  get_or_subsets t h = get_or_tabulate symbols (λ u. cond (wanted u) (back_substitute pivots surviving (get_or rows u 0)) 0) t h
 
   -- Each is a subset of the rows
   pub subsets_below : (t : ℕ) → get_or (wanted_subsets pivots surviving rows symbols wanted) t 0 < 2 ^ length surviving

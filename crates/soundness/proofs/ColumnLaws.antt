@@ -36,13 +36,13 @@ module _ (L symbols : ℕ) (x : List ℕ) (x_length : length x ≡ symbols * L) 
   lowest_of_none e = record { within = omega arith; met_before = λ i h e' q. absurd (omega arith); fails_there = λ h. absurd (omega arith) }
 
   module _ (e : ℕ) (within : e < length equations) {lowest : ℕ} (so_far : LowestFailing L symbols x (take e equations) lowest) {sum : List ℕ}
-      (sum_is_lem : sum ≡ encoded_symbol L x (get_or equations e 0) symbols) {first : ℕ} (found : FirstNonzero (take lowest sum) first) where
+      (sum_is : sum ≡ encoded_symbol L x (get_or equations e 0) symbols) {first : ℕ} (found : FirstNonzero (take lowest sum) first) where
     sum_length : length sum ≡ L
-    sum_length = ap {B = ℕ} length sum_is_lem ∙ length_encoded_symbol L x (get_or equations e 0) symbols (omega arith)
+    sum_length = ap {B = ℕ} length sum_is ∙ length_encoded_symbol L x (get_or equations e 0) symbols (omega arith)
 
     -- A byte of the sum
     byte_of_sum : (i : ℕ) → i < L → get_or sum i 0 ≡ select (column L symbols x i) (get_or equations e 0)
-    byte_of_sum i h = ap (λ (l : List ℕ). get_or l i 0) sum_is_lem ∙ get_or_encoded_symbol L x (get_or equations e 0) symbols i (omega arith) h
+    byte_of_sum i h = ap (λ (l : List ℕ). get_or l i 0) sum_is ∙ get_or_encoded_symbol L x (get_or equations e 0) symbols i (omega arith) h
 
     -- A column that meets the equations so far and this one
     meets_more : (i : ℕ) → MeetsAll (take e equations) (column L symbols x i) → select (column L symbols x i) (get_or equations e 0) ≡ 0 → MeetsAll (take (e + 1) equations) (column L symbols x i)

@@ -9,7 +9,7 @@ use native.Mathlib.Omega.{arith}
 use lib.ListN.{length, get_or, replicate, length-replicate, get_or-eq_default}
 use lib.Seq.{ext_get_or}
 use Rattle.bits.specs.Lists.{tabulate}
-use Rattle.bits.proofs.ListLaws.{length_tabulate, get_d_tabulate, get_or_tabulate_behind}
+use Rattle.bits.proofs.ListLaws.{length_tabulate, get_or_tabulate, get_or_tabulate_behind}
 use Rattle.gf2.specs.Plans.{PlacesBelow}
 use Rattle.gf2.specs.Selection.{select}
 use Rattle.gf2.specs.Stripes.{AreBytes, encoding, Valid}
@@ -42,7 +42,7 @@ module _ (L data_symbols : ℕ) (data_of : ℕ → List ℕ) where
   joined_bytes bytes p = by_side (dec_lt p (data_symbols * L))
     where
       by_side : Dec (p < data_symbols * L) → get_or joined p 0 < 256
-      by_side (yes h) = subst (λ (x : ℕ). x < 256) (sym (get_d_tabulate (data_symbols * L) (λ q. get_or (data_of (q % L)) (q / L) 0) p h)) (bytes (p % L) (p / L))
+      by_side (yes h) = subst (λ (x : ℕ). x < 256) (sym (get_or_tabulate (data_symbols * L) (λ q. get_or (data_of (q % L)) (q / L) 0) p h)) (bytes (p % L) (p / L))
       by_side (no h) = subst (λ (x : ℕ). x < 256) (sym (get_or_tabulate_behind (data_symbols * L) (λ q. get_or (data_of (q % L)) (q / L) 0) p (omega arith))) (omega arith)
 
   column_joined : (i : ℕ) → i < L → length (data_of i) ≡ data_symbols → column L data_symbols joined i ≡ data_of i
@@ -51,7 +51,7 @@ module _ (L data_symbols : ℕ) (data_of : ℕ → List ℕ) where
       (λ t q.
       let t_below : t < data_symbols = subst (λ (m : ℕ). t < m) (length_column L data_symbols joined i) q in
       get_or_column L data_symbols joined i t t_below
-      ∙ get_d_tabulate (data_symbols * L) (λ p. get_or (data_of (p % L)) (p / L) 0) (t * L + i) (omega (arith, symbol_fits L data_symbols joined t joined_length t_below, joined_length))
+      ∙ get_or_tabulate (data_symbols * L) (λ p. get_or (data_of (p % L)) (p / L) 0) (t * L + i) (omega (arith, symbol_fits L data_symbols joined t joined_length t_below, joined_length))
       ∙ ap₂ (λ (c : ℕ) (r : ℕ). get_or (data_of c) r 0) (position_column t L i h) (position_symbol t L i h))
 
   module _ (rows : List ℕ) (counted : (i : ℕ) → length (data_of i) ≡ data_symbols) (bytes : (i : ℕ) → AreBytes (data_of i)) where

@@ -11,7 +11,7 @@ use lib.ListN.{length, get_or, length-map}
 use borrow.Author.Tests.{eqb-true, eqb-false}
 use Rattle.bits.specs.BitSets.{has, scale}
 use Rattle.bits.proofs.Booleans.{bool_cases, and_left, and_true_if_both}
-use Rattle.bits.proofs.ListLaws.{get_d_tabulate, get_or_tabulate_behind}
+use Rattle.bits.proofs.ListLaws.{get_or_tabulate, get_or_tabulate_behind}
 use Rattle.bits.proofs.SetLaws.{has_empty, has_zero, has_suc, has_sum, has_unit}
 use Rattle.bits.proofs.XorLaws.{scale_zero}
 use Rattle.gf2.specs.Plans.{Within, PlacesBelow, AgreeOn}
@@ -121,7 +121,7 @@ module _ (data_symbols : ℕ) (patterns : List ℕ) (start : StartsWithUnits dat
 
       by_side : Dec (j < length rows) → P (get_or (row_equations found surviving (length rows) chosen) j 0)
       by_side (yes h) =
-          subst P (sym (get_d_tabulate (length rows) entry j h))
+          subst P (sym (get_or_tabulate (length rows) entry j h))
           (bool_cases (λ c. chosen j ≡ c → P (cond c (equation_of patterns surviving j) 0)) (λ q. each j (and_left (known j) (eqb (get_or found j 0) 0) q)) (λ q. none) (chosen j) refl)
       by_side (no h) =
           subst P (sym (get_or_tabulate_behind (length rows) entry j (omega arith))) none
@@ -129,7 +129,7 @@ module _ (data_symbols : ℕ) (patterns : List ℕ) (start : StartsWithUnits dat
   -- The equation of a known row without a pivot is its entry
   entry_of_chosen : (j : ℕ) → known j ≡ true → eqb (get_or found j 0) 0 ≡ true → get_or (row_equations found surviving (length rows) chosen) j 0 ≡ equation_of patterns surviving j
   entry_of_chosen j is_known no_pivot =
-      get_d_tabulate (length rows) (λ k. cond (chosen k) (equation_of patterns surviving k) 0) j (known_below j is_known)
+      get_or_tabulate (length rows) (λ k. cond (chosen k) (equation_of patterns surviving k) 0) j (known_below j is_known)
       ∙ ap (λ (c : Bool). cond c (equation_of patterns surviving j) 0) (and_true_if_both (known j) (eqb (get_or found j 0) 0) is_known no_pivot)
 
   -- The equation of a row that is not known is its place alone

@@ -7,7 +7,7 @@ use lib.Dec.{eqb}
 use lib.ListN.{length, get_or, take}
 use Rattle.bits.specs.BitSets.{has, with}
 use Rattle.bits.specs.Numerals.{set_width, numeral, numerals}
-use Rattle.bits.proofs.ListLaws.{length_tabulate, get_d_tabulate}
+use Rattle.bits.proofs.ListLaws.{length_tabulate, get_or_tabulate}
 use Rattle.bits.proofs.NumeralLaws.{numerals_set}
 use Rattle.bits.proofs.PaddedLaws.{stored_chosen, stored_passed, stored_all}
 use Rattle.bits.proofs.SetLaws.{with_of_empty}
@@ -31,7 +31,7 @@ loop-s-preserved c =
     let fits : length wanted ≤ set_width = omega arith in
     let loop = c.loop-s in
     let below : loop.s < a.symbols = omega arith in
-    let entry = get_d_tabulate a.symbols equation loop.s below in
+    let entry = get_or_tabulate a.symbols equation loop.s below in
     let within : loop.s < length wanted = omega arith in
     let test =
     sym
