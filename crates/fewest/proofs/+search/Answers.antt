@@ -1,17 +1,35 @@
 -- `fewest::search` meets its contract: where it ends, and from its two branches. The measure is how many symbols may be taken. Assumes nothing.
 use mathlib.Core.Path.{◌≡◌, sym, ap, ◌∙◌, subst}
+use mathlib.Core.List.{List}
 use native.Mathlib.Omega.{arith}
-use lib.Bits.{bit_xor, xor_lt}
+use lib.Bits.{bit_and, bit_xor, xor_lt}
+use lib.ListN.{get_or}
 use lib.Pow.{pow-lt}
 use Rattle.bits.specs.BitSets.{has, with}
+use Rattle.bits.specs.Lists.{first_from}
 use Rattle.bits.specs.Numerals.{set_width, numeral, numerals}
 use Rattle.bits.proofs.BitSetLaws.{count_le}
 use Rattle.bits.proofs.NumeralLaws.{get_or_numerals}
 use Rattle.bits.proofs.SetLaws.{with_of_empty, with_below}
 use Rattle.fewest.specs.InnerFewest.{Searched, size}
 use Rattle.fewest.proofs.SearchLaws.{count_is_size, without_smaller, searched_taken, searched_no_fewer, searched_nothing_left, searched_no_room, searched_too_many, element_shared, nothing_shared, searched_step, searched_stopped, counted_both}
-use Prim.Native.Nat.{ℕ, ◌+◌, ◌-◌, ◌^◌, ◌<◌}
+use Prim.Native.Nat.{ℕ, ◌^◌, ◌<◌}
 use Rattle.fewest.proofs.+search.Goals as goal
+
+-- A set less the set of one symbol, which was made from the empty set, is the set less that symbol
+taken_out : (allowed element : ℕ) {none unit left : ℕ} → none ≡ 0 → unit ≡ with none element → left ≡ bit_xor allowed unit → left ≡ bit_xor allowed (2 ^ element)
+taken_out allowed element none_is unit_is left_is = left_is ∙ ap (bit_xor allowed) (unit_is ∙ ap (λ (x : ℕ). with x element) none_is ∙ with_of_empty element)
+
+-- A set of the width less a symbol of the width is a set of the width
+left_in_width : (allowed element : ℕ) {left : ℕ} → left ≡ bit_xor allowed (2 ^ element) → allowed < 2 ^ set_width → element < set_width → left < 2 ^ set_width
+left_in_width allowed element left_is small in-width = subst (λ (x : ℕ). x < 2 ^ set_width) (sym left_is) (xor_lt set_width allowed (2 ^ element) small (pow-lt in-width))
+
+-- Fewer symbols may be taken where the first that an image shares with them is left out
+fewer_left : (images : List ℕ) (allowed at : ℕ) {image shared element left : ℕ} → element ≡ first_from (has shared) 0 set_width → shared ≡ bit_and image allowed
+    → image ≡ get_or images at 0 → element < set_width → left ≡ bit_xor allowed (2 ^ element) → size (has left) < size (has allowed)
+fewer_left images allowed at {element = element} is_first is_shared is_image in-width left_is =
+    let inside = (element_shared images allowed at _ _ element is_first is_shared is_image in-width).1 in
+    subst (λ (x : ℕ). size (has x) < size (has allowed)) (sym left_is) (without_smaller allowed element inside in-width)
 
 pub returns-then-count-clause-searched : goal.returns-then-count-clause-searched
 returns-then-count-clause-searched t c rows given =
@@ -30,7 +48,7 @@ returns-then-element-ge-SET_WIDTH-clause-searched t c rows given =
     let args = c.args in
     let spread = c.spread-apart in
     let at = c.next_image-at.result in
-    let below : at < args.total = omega (arith, c.if-total-at.false) in
+    let below = c.if-total-at.false in
     let lowest = c.lowest_from-element in
     searched_nothing_left rows _ _ _ _ _ _ (spread.ensures.kept rows _ given) at below (c.next_image-at.ensures.found below)
     (nothing_shared (numerals spread.result) (numeral args.allowed) at _ _ lowest.result lowest.ensures c.common.ensures (get_or_numerals spread.result at) c.requires.3 c.if-element-ge-SET_WIDTH.true)
@@ -43,7 +61,7 @@ returns-then-count-2-clause-searched t c rows given =
     let args = c.args in
     let pre = c.requires in
     let at = c.next_image-at.result in
-    let below : at < args.total = omega (arith, c.if-total-at.false) in
+    let below = c.if-total-at.false in
     searched_no_room rows _ _ _ _ _ _ (c.spread-apart.ensures.kept rows _ given) at below (c.next_image-at.ensures.found below) pre.3 pre.2
     (omega (arith, c.count-2.ensures ∙ count_is_size _ pre.4, c.count-3.ensures ∙ count_is_size _ pre.2, c.if-count-2.true))
 
@@ -64,16 +82,14 @@ search-one-requires t c =
     let at = c.next_image-at.result in
     let image = get_or_numerals spread.result at in
     let lowest = c.lowest_from-element in
-    let in-width : lowest.result < set_width = omega (arith, c.if-element-ge-SET_WIDTH.false) in
-    let inside = (element_shared (numerals spread.result) (numeral args.allowed) at _ _ lowest.result lowest.ensures c.common.ensures image in-width).1 in
-    let unit : numeral c.with.result ≡ 2 ^ lowest.result = c.with.ensures ∙ ap (λ (x : ℕ). with x lowest.result) c.empty.ensures ∙ with_of_empty lowest.result in
-    let left : numeral c.sum-left.result ≡ bit_xor (numeral args.allowed) (2 ^ lowest.result) = c.sum-left.ensures ∙ ap (bit_xor (numeral args.allowed)) unit in (
-      omega (arith, ap (λ (x : ℕ). size (has x)) left, without_smaller (numeral args.allowed) lowest.result inside in-width, c.decreases),
+    let in-width = c.if-element-ge-SET_WIDTH.false in
+    let left = taken_out _ _ c.empty.ensures c.with.ensures c.sum-left.ensures in (
+      omega (arith, fewer_left (numerals spread.result) _ at lowest.ensures c.common.ensures image in-width left, c.decreases),
       (
         pre.0,
         pre.1,
         subst (λ (x : ℕ). x < 2 ^ set_width) (sym c.with-more.ensures) (with_below set_width (numeral args.taken) lowest.result pre.2 in-width),
-        subst (λ (x : ℕ). x < 2 ^ set_width) (sym left) (xor_lt set_width (numeral args.allowed) (2 ^ lowest.result) pre.3 (pow-lt in-width)),
+        left_in_width _ _ left pre.3 in-width,
         pre.4,
       ),
     )
@@ -86,16 +102,14 @@ search-requires t c =
     let at = c.next_image-at.result in
     let image = get_or_numerals spread.result at in
     let lowest = c.lowest_from-element in
-    let in-width : lowest.result < set_width = omega (arith, c.if-element-ge-SET_WIDTH.false) in
-    let inside = (element_shared (numerals spread.result) (numeral args.allowed) at _ _ lowest.result lowest.ensures c.common.ensures image in-width).1 in
-    let unit : numeral c.with.result ≡ 2 ^ lowest.result = c.with.ensures ∙ ap (λ (x : ℕ). with x lowest.result) c.empty.ensures ∙ with_of_empty lowest.result in
-    let left : numeral c.sum-left.result ≡ bit_xor (numeral args.allowed) (2 ^ lowest.result) = c.sum-left.ensures ∙ ap (bit_xor (numeral args.allowed)) unit in (
-      omega (arith, ap (λ (x : ℕ). size (has x)) left, without_smaller (numeral args.allowed) lowest.result inside in-width, c.decreases),
+    let in-width = c.if-element-ge-SET_WIDTH.false in
+    let left = taken_out _ _ c.empty.ensures c.with.ensures c.sum-left.ensures in (
+      omega (arith, fewer_left (numerals spread.result) _ at lowest.ensures c.common.ensures image in-width left, c.decreases),
       (
         pre.0,
         pre.1,
         pre.2,
-        subst (λ (x : ℕ). x < 2 ^ set_width) (sym left) (xor_lt set_width (numeral args.allowed) (2 ^ lowest.result) pre.3 (pow-lt in-width)),
+        left_in_width _ _ left pre.3 in-width,
         c.search-one.ensures.small,
       ),
     )
@@ -107,27 +121,23 @@ returns-clause-counted t c =
     let at = c.next_image-at.result in
     let image = get_or_numerals spread.result at in
     let lowest = c.lowest_from-element in
-    let in-width : lowest.result < set_width = omega (arith, c.if-element-ge-SET_WIDTH.false) in
-    let inside = (element_shared (numerals spread.result) (numeral args.allowed) at _ _ lowest.result lowest.ensures c.common.ensures image in-width).1 in
-    let unit : numeral c.with.result ≡ 2 ^ lowest.result = c.with.ensures ∙ ap (λ (x : ℕ). with x lowest.result) c.empty.ensures ∙ with_of_empty lowest.result in
-    let left : numeral c.sum-left.result ≡ bit_xor (numeral args.allowed) (2 ^ lowest.result) = c.sum-left.ensures ∙ ap (bit_xor (numeral args.allowed)) unit in
+    let in-width = c.if-element-ge-SET_WIDTH.false in
+    let left = taken_out _ _ c.empty.ensures c.with.ensures c.sum-left.ensures in
     let one = c.search-one in
-    let both = c.search in
-    counted_both args.branchings one.result.branchings both.result.branchings (size (has (bit_xor (numeral args.allowed) (2 ^ lowest.result)))) (size (has (numeral args.allowed)))
-    (omega (arith, c.if-branchings-eq0.false)) (without_smaller (numeral args.allowed) lowest.result inside in-width)
-    (subst (λ (x : ℕ). args.branchings - 1 < one.result.branchings + 2 ^ size (has x)) left one.ensures.counted)
-    (subst (λ (x : ℕ). one.result.branchings < both.result.branchings + 2 ^ size (has x)) left both.ensures.counted)
+    counted_both args.branchings one.result.branchings c.search.result.branchings (size (has (numeral c.sum-left.result))) (size (has (numeral args.allowed)))
+    (omega (arith, c.if-branchings-eq0.false)) (fewer_left (numerals spread.result) _ at lowest.ensures c.common.ensures image in-width left)
+    one.ensures.counted c.search.ensures.counted
 
 pub returns-clause-searched : goal.returns-clause-searched
 returns-clause-searched t c rows given =
     let args = c.args in
     let spread = c.spread-apart in
     let at = c.next_image-at.result in
-    let below : at < args.total = omega (arith, c.if-total-at.false) in
+    let below = c.if-total-at.false in
     let image = get_or_numerals spread.result at in
     let lowest = c.lowest_from-element in
-    let in-width : lowest.result < set_width = omega (arith, c.if-element-ge-SET_WIDTH.false) in
-    let unit : numeral c.with.result ≡ 2 ^ lowest.result = c.with.ensures ∙ ap (λ (x : ℕ). with x lowest.result) c.empty.ensures ∙ with_of_empty lowest.result in
-    let left : numeral c.sum-left.result ≡ bit_xor (numeral args.allowed) (2 ^ lowest.result) = c.sum-left.ensures ∙ ap (bit_xor (numeral args.allowed)) unit in
-    searched_step (numerals spread.result) (numeral args.allowed) at _ _ lowest.result lowest.ensures c.common.ensures image rows (numeral args.wanted) (numeral args.taken) (numeral args.best) args.total _ (spread.ensures.kept rows _ given) below in-width
+    let in-width = c.if-element-ge-SET_WIDTH.false in
+    let left = taken_out _ _ c.empty.ensures c.with.ensures c.sum-left.ensures in
+    searched_step (numerals spread.result) (numeral args.allowed) at _ _ lowest.result lowest.ensures c.common.ensures image
+    rows (numeral args.wanted) (numeral args.taken) (numeral args.best) args.total _ (spread.ensures.kept rows _ given) below in-width
     c.reduce-reduced.ensures.reduced c.search.ensures.fewer c.with-more.ensures left (c.search-one.ensures.searched rows) (c.search.ensures.searched rows)
