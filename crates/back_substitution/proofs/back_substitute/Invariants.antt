@@ -1,4 +1,4 @@
--- `back_substitution::back_substitute` meets its contract. The invariant: back substitution has come down to row s. Assumes nothing.
+-- The invariant of `back_substitution::back_substitute`: back substitution has come down to row s.
 use Prim.Native.Nat.{◌≤◌}
 use lib.ListN.{length}
 use Rattle.bits.specs.Numerals.{numeral, numerals}

@@ -1,5 +1,5 @@
--- `code_limits::first_stray` meets its contract. The invariants: no place before the row, and none of the row before the bit, is stray.
--- The search in a row begins with the first bit that it has from K on. Assumes nothing.
+-- The invariants of `code_limits::first_stray`: no place before the row, and none of the row before the bit, is stray. The search in a row begins
+-- with the first bit that it has from K on.
 use Prim.Native.Nat.{ℕ, ◌+◌, ◌-◌, ◌*◌, ◌≤◌, ◌<◌}
 use mathlib.Core.Path.{◌≡◌}
 use mathlib.Core.Bool.{false}

@@ -1,4 +1,4 @@
--- `copy_text` meets its contract. The invariant: the bytes passed are the text's, the others as they were. Assumes nothing.
+-- The invariant of `copy_text`: the bytes passed are the text's, the others as they were.
 use Prim.Native.Nat.{◌-◌, ◌≤◌}
 use mathlib.Core.Path.{◌≡◌}
 use lib.ListN.{length, take}

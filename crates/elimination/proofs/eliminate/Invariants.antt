@@ -1,5 +1,5 @@
--- `elimination::eliminate` meets its contract. The invariants: the rows before s are taken in, and zeros are still behind the patterns; the pass for row s
--- has come to pattern i. Assumes nothing.
+-- The invariants of `elimination::eliminate`: the rows before s are taken in, and zeros are still behind the patterns; the pass for row s has come to
+-- pattern i.
 use mathlib.Core.Path.{◌≡◌}
 use Prim.Native.Nat.{◌-◌, ◌≤◌}
 use lib.ListN.{length}

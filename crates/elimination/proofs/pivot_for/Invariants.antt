@@ -1,4 +1,4 @@
--- `elimination::pivot_for` meets its contract. The invariant: the pivot is among the patterns from i on. Assumes nothing.
+-- The invariant of `elimination::pivot_for`: the pivot is among the patterns from i on.
 use mathlib.Core.Path.{◌≡◌}
 use Prim.Native.Nat.{◌-◌, ◌≤◌}
 use lib.ListN.{drop}

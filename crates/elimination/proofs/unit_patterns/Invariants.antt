@@ -1,4 +1,4 @@
--- `elimination::unit_patterns` meets its contract. The invariant: the first i unit patterns are stored. Assumes nothing.
+-- The invariant of `elimination::unit_patterns`: the first i unit patterns are stored.
 use mathlib.Core.Path.{◌≡◌}
 use Prim.Native.Nat.{◌-◌, ◌≤◌}
 use Rattle.bits.specs.Numerals.{numerals}

@@ -1,3 +1,4 @@
+-- `encoding::encode_symbols` meets its contract. Assumes nothing.
 use mathlib.Core.Path.{◌≡◌, ap, ◌∙◌}
 use native.Mathlib.Omega.{arith}
 use Rattle.bits.specs.Numerals.{numerals}

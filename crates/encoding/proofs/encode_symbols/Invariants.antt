@@ -1,4 +1,4 @@
--- `encoding::encode_symbols` meets its contract. The invariant: the symbols passed are encoded, the others as they were. Assumes nothing.
+-- The invariant of `encoding::encode_symbols`: the symbols passed are encoded, the others as they were.
 use Prim.Native.Nat.{◌-◌}
 use mathlib.Core.Path.{◌≡◌}
 use lib.ListN.{length}

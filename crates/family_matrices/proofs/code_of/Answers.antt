@@ -1,3 +1,4 @@
+-- `family_matrices::code_of` meets its contract. Assumes nothing.
 use mathlib.Core.Path.{ap, ap₂, ◌∙◌}
 use native.Mathlib.Omega.{arith}
 use Rattle.bits.proofs.NumeralLaws.{numerals_set}

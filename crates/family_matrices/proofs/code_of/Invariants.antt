@@ -1,4 +1,4 @@
--- `family_matrices::code_of` meets its contract. The invariant: the rows of the symbols passed are stored, the others are empty. Assumes nothing.
+-- The invariant of `family_matrices::code_of`: the rows of the symbols passed are stored, the others are empty.
 use mathlib.Core.Path.{◌≡◌}
 use Prim.Native.Nat.{◌-◌, ◌≤◌}
 use Rattle.bits.specs.Lists.{tabulate}

@@ -1,3 +1,4 @@
+-- `family_matrices::data_sum` meets its contract. Assumes nothing.
 use mathlib.Core.Path.{◌≡◌}
 use native.Mathlib.Omega.{arith}
 use Rattle.family_codes.specs.Families.{data_disks, sum_over}

@@ -1,4 +1,4 @@
--- `family_matrices::data_sum` meets its contract. The invariant: the sum over the disks passed. Assumes nothing.
+-- The invariant of `family_matrices::data_sum`: the sum over the disks passed.
 use mathlib.Core.Path.{◌≡◌}
 use Prim.Native.Nat.{◌-◌, ◌≤◌}
 use Rattle.bits.specs.Numerals.{numeral}

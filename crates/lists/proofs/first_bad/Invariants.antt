@@ -1,4 +1,4 @@
--- `lists::first_bad` meets its contract. The invariant: no entry passed is bad. Assumes nothing.
+-- The invariant of `lists::first_bad`: no entry passed is bad.
 use mathlib.Core.Path.{◌≡◌}
 use mathlib.Core.Bool.{false, not, ◌||◌}
 use Prim.Native.Nat.{ℕ, ◌-◌, ◌≤◌, ◌<◌}

@@ -1,3 +1,4 @@
+-- `lists::is_same` meets its contract. Assumes nothing.
 use mathlib.Core.Path.{refl, sym, ◌∙◌}
 use native.Mathlib.Omega.{arith}
 use Rattle.lists.proofs.ListLaws.{same_lengths, same_apart, same_passed, same_ended}

@@ -1,4 +1,4 @@
--- `lists::is_same` meets its contract. The invariant: the entries that remain decide. Assumes nothing.
+-- The invariant of `lists::is_same`: the entries that remain decide.
 use mathlib.Core.Path.{◌≡◌}
 use Prim.Native.Nat.{◌-◌, ◌≤◌}
 use lib.ListN.{drop}

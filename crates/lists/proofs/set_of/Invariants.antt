@@ -1,4 +1,4 @@
--- `lists::set_of` meets its contract. The invariant: the set has the entries passed. Assumes nothing.
+-- The invariant of `lists::set_of`: the set has the entries passed.
 use mathlib.Core.Path.{◌≡◌}
 use Prim.Native.Nat.{ℕ, ◌-◌, ◌≤◌}
 use lib.ListN.{take}

@@ -1,4 +1,4 @@
--- `losses::lost_symbols` meets its contract. The invariant: the set has the symbols of the disks passed. Assumes nothing.
+-- The invariant of `losses::lost_symbols`: the set has the symbols of the disks passed.
 use mathlib.Core.Path.{◌≡◌}
 use mathlib.Core.Bool.{◌&&◌}
 use Prim.Native.Nat.{ℕ, ◌-◌, ◌^◌, ◌≤◌, ◌<◌}

@@ -1,4 +1,4 @@
--- `part_passes::copy` meets its contract. The invariant: the bytes passed are summed, the others as they were. Assumes nothing.
+-- The invariant of `part_passes::copy`: the bytes passed are summed, the others as they were.
 use Prim.Native.Nat.{◌-◌, ◌≤◌}
 use mathlib.Core.Path.{◌≡◌}
 use lib.ListN.{length, take}

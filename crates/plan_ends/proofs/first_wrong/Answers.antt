@@ -1,3 +1,4 @@
+-- `plan_ends::first_wrong` meets its contract. Assumes nothing.
 use mathlib.Core.Path.{sym, ◌∙◌}
 use mathlib.Core.Bool.{not}
 use native.Mathlib.Nat.{not-suc-le-zero}

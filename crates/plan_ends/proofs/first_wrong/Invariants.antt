@@ -1,4 +1,4 @@
--- `plan_ends::first_wrong` meets its contract. The invariant: each wanted symbol passed ends right. Assumes nothing.
+-- The invariant of `plan_ends::first_wrong`: each wanted symbol passed ends right.
 use mathlib.Core.Path.{◌≡◌}
 use mathlib.Core.Bool.{false, not, ◌&&◌}
 use Prim.Native.Nat.{ℕ, ◌-◌, ◌≤◌, ◌<◌}

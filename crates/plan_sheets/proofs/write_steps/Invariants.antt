@@ -1,5 +1,5 @@
--- `plan_sheets::write_steps` meets its contract. The invariant: the steps for the symbols passed are written and their sources gathered, and those for the
--- others remain. Assumes nothing.
+-- The invariant of `plan_sheets::write_steps`: the steps for the symbols passed are written and their sources gathered, and those for the others
+-- remain.
 use Prim.Native.Nat.{◌-◌, ◌≤◌}
 use Rattle.bits.specs.BitSets.{has}
 use Rattle.bits.specs.Numerals.{numeral, numerals}

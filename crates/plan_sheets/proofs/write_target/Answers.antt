@@ -1,3 +1,4 @@
+-- `plan_sheets::write_target` meets its contract. Assumes nothing.
 use mathlib.Core.Path.{sym, ◌∙◌}
 use native.Mathlib.Omega.{arith}
 use Rattle.bits.specs.Numerals.{numeral}

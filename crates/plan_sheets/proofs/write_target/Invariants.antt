@@ -1,4 +1,4 @@
--- `plan_sheets::write_target` meets its contract. The invariant: the steps for the places passed are written, and those for the others remain. Assumes nothing.
+-- The invariant of `plan_sheets::write_target`: the steps for the places passed are written, and those for the others remain.
 use Prim.Native.Nat.{◌-◌, ◌≤◌}
 use Rattle.bits.specs.Numerals.{numeral}
 use Rattle.plan_sheets.proofs.StepsWrittenLaws.{TargetRemaining}

@@ -1,3 +1,4 @@
+-- `planvectors::floats_in` ends, and its array has 64 floats. Assumes nothing.
 use mathlib.Core.Path.{sym, ◌∙◌}
 use lib.ListN.{length-set}
 use Rattle.planvectors.proofs.floats_in.Goals as goal

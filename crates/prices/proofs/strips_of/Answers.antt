@@ -1,3 +1,4 @@
+-- `prices::strips_of` meets its contract. Assumes nothing.
 use Rattle.std.proofs.Common.{ℕ, ◌+◌, ◌<◌, length, sym, ap, ◌∙◌, subst, arith, length-set}
 use Rattle.bits.specs.Numerals.{numeral, numerals}
 use Rattle.bits.proofs.NumeralLaws.{numerals_set}

@@ -1,4 +1,4 @@
--- `prices::strips_of` meets its contract. The invariant: the strips of the disks before `disk` are stored. Assumes nothing.
+-- The invariant of `prices::strips_of`: the strips of the disks before `disk` are stored.
 use Rattle.std.proofs.Common.{◌≡◌, ◌-◌, ◌≤◌, length}
 use Rattle.bits.specs.Numerals.{set_width, numerals}
 use Rattle.prices.proofs.PriceLaws.{StripsTo}

@@ -1,3 +1,4 @@
+-- `prices::sum_of` meets its contract. Assumes nothing.
 use Rattle.std.proofs.Common.{◌+◌, ◌-◌, ◌<◌, ap, ◌∙◌, arith}
 use native.Mathlib.Nat.{sub-zero}
 use lib.Bits.{bit_and}

@@ -1,4 +1,4 @@
--- `prices::sum_of` meets its contract. The invariant: the charges to come, added to the sum so far, come to the whole sum. Assumes nothing.
+-- The invariant of `prices::sum_of`: the charges to come, added to the sum so far, come to the whole sum.
 use Rattle.std.proofs.Common.{◌≡◌, ℕ, ◌-◌, ◌≤◌, List, get_or}
 use lib.Bits.{bit_and}
 use lib.Ieee.{Float}

@@ -1,3 +1,4 @@
+-- `records::contains` meets its contract. Assumes nothing.
 use mathlib.Core.Path.{sym, ◌∙◌}
 use native.Mathlib.Omega.{arith}
 use Rattle.records.proofs.LoopLaws.{listed_found, listed_passed, listed_none}

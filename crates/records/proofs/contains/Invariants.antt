@@ -1,4 +1,4 @@
--- `records::contains` meets its contract. The invariant: the bytes that remain decide. Assumes nothing.
+-- The invariant of `records::contains`: the bytes that remain decide.
 use mathlib.Core.Path.{◌≡◌}
 use Prim.Native.Nat.{◌-◌}
 use lib.ListN.{length, drop}

@@ -1,3 +1,4 @@
+-- `records::digest` meets its contract, and its sums fit. Assumes nothing.
 use mathlib.Core.Path.{refl}
 use native.Mathlib.Omega.{arith}
 use Rattle.records.proofs.LoopLaws.{digest_more, digest_all}

@@ -1,5 +1,4 @@
--- `records::digest` meets its contract, and its sums fit. The invariant: what the bytes that remain make of the sum, which is below the modulus, is the
--- digest. Assumes nothing.
+-- The invariant of `records::digest`: what the bytes that remain make of the sum, which is below the modulus, is the digest.
 use mathlib.Core.Path.{◌≡◌}
 use Prim.Native.Nat.{◌≤◌, ◌<◌, ◌-◌}
 use lib.ListN.{length, drop}

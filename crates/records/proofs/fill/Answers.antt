@@ -1,3 +1,4 @@
+-- `records::fill` meets its contract, and its products fit. Assumes nothing.
 use native.Mathlib.Omega.{arith}
 use Rattle.records.specs.Records.{next_state, state_byte}
 use Rattle.records.proofs.MadeLaws.{storing_starts, storing_more, storing_ends}

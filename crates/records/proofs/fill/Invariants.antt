@@ -1,5 +1,4 @@
--- `records::fill` meets its contract, and its products fit. The invariant: the bytes passed are stored, and those left are made of the state, which
--- is below 2 ^ 31. Assumes nothing.
+-- The invariant of `records::fill`: the bytes passed are stored, and those left are made of the state, which is below 2 ^ 31.
 use Prim.Native.Nat.{◌-◌, ◌%◌, ◌<◌}
 use lib.ListN.{length}
 use Rattle.records.specs.Records.{next_state, state_byte}

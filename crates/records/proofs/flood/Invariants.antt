@@ -1,4 +1,4 @@
--- `records::flood` meets its contract. The invariant: the bytes passed are stored. Assumes nothing.
+-- The invariant of `records::flood`: the bytes passed are stored.
 use mathlib.Core.Path.{◌≡◌}
 use Prim.Native.Nat.{◌≤◌, ◌-◌}
 use lib.ListN.{length, replicate}

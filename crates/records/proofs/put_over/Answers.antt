@@ -1,3 +1,4 @@
+-- `records::put_over` meets its contract. Assumes nothing.
 use mathlib.Core.Path.{refl}
 use native.Mathlib.Omega.{arith}
 use lib.ListN.{length, length-set, length-take, get_or}

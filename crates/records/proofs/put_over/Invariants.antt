@@ -1,4 +1,4 @@
--- `records::put_over` meets its contract. The invariant: the bytes passed are stored. Assumes nothing.
+-- The invariant of `records::put_over`: the bytes passed are stored.
 use mathlib.Core.Path.{◌≡◌}
 use Prim.Native.Nat.{◌≤◌, ◌-◌}
 use lib.ListN.{length, take}

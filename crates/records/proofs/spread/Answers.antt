@@ -1,3 +1,4 @@
+-- `records::spread` meets its contract. Assumes nothing.
 use native.Mathlib.Omega.{arith}
 use Rattle.records.proofs.MadeLaws.{storing_starts, storing_more, storing_ends}
 use Rattle.records.proofs.spread.Goals as goal

@@ -1,4 +1,4 @@
--- `records::spread` meets its contract. The invariant: the bits passed are stored, and those left are those of the rest. Assumes nothing.
+-- The invariant of `records::spread`: the bits passed are stored, and those left are those of the rest.
 use Prim.Native.Nat.{◌-◌, ◌/◌, ◌%◌}
 use Rattle.records.proofs.MadeLaws.{Storing}
 use Rattle.records.proofs.spread.Given as goal

@@ -1,4 +1,4 @@
--- `sheets::write_list` meets its contract. The invariant: the count is stored and the entries passed are copied behind it. Assumes nothing.
+-- The invariant of `sheets::write_list`: the count is stored and the entries passed are copied behind it.
 use mathlib.Core.Path.{◌≡◌}
 use Prim.Native.Nat.{◌+◌, ◌-◌, ◌≤◌}
 use lib.Seq.{paste}

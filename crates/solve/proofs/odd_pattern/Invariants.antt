@@ -1,4 +1,4 @@
--- `solve::odd_pattern` meets its contract. The invariant: what is found in the rows to come is found in all. Assumes nothing.
+-- The invariant of `solve::odd_pattern`: what is found in the rows to come is found in all.
 use mathlib.Core.Path.{◌≡◌}
 use Prim.Native.Nat.{◌-◌, ◌≤◌}
 use lib.ListN.{take}

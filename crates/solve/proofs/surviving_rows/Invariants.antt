@@ -1,4 +1,4 @@
--- `solve::surviving_rows` meets its contract. The invariant: the rows of the known symbols before s are stored. Assumes nothing.
+-- The invariant of `solve::surviving_rows`: the rows of the known symbols before s are stored.
 use mathlib.Core.Path.{◌≡◌}
 use Prim.Native.Nat.{◌-◌, ◌≤◌}
 use lib.ListN.{take}

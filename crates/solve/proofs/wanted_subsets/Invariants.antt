@@ -1,4 +1,4 @@
--- `solve::wanted_subsets` meets its contract. The invariant: the subsets of the wanted symbols before `target` are stored. Assumes nothing.
+-- The invariant of `solve::wanted_subsets`: the subsets of the wanted symbols before `target` are stored.
 use mathlib.Core.Path.{◌≡◌}
 use Prim.Native.Nat.{◌-◌, ◌≤◌}
 use lib.ListN.{take}

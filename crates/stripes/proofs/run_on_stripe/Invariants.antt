@@ -1,4 +1,4 @@
--- `stripes::run_on_stripe` meets its contract. The invariant: all steps leave what those that remain leave of the stripe that is reached. Assumes nothing.
+-- The invariant of `stripes::run_on_stripe`: all steps leave what those that remain leave of the stripe that is reached.
 use Prim.Native.Nat.{◌-◌}
 use Rattle.stripes.proofs.RunLaws.{Remaining}
 use Rattle.stripes.proofs.run_on_stripe.Given as goal

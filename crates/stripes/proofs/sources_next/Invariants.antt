@@ -1,4 +1,4 @@
--- `stripes::sources_next` meets its contract. The invariant: the steps passed are adds of the sources to the target. Assumes nothing.
+-- The invariant of `stripes::sources_next`: the steps passed are adds of the sources to the target.
 use mathlib.Core.Path.{◌≡◌}
 use mathlib.Core.List.{List}
 use Prim.Native.Nat.{ℕ, ◌+◌, ◌-◌, ◌≤◌}

@@ -1,3 +1,4 @@
+-- `symbol_passes::clear` meets its contract. Assumes nothing.
 use Prim.Native.Nat.{ℕ, ◌*◌}
 use mathlib.Core.Path.{refl, subst⁻¹}
 use native.Mathlib.Omega.{arith}

@@ -1,4 +1,4 @@
--- `symbol_passes::copy` meets its contract. The invariant: the bytes passed are summed, all others as they were. Assumes nothing.
+-- The invariant of `symbol_passes::copy`: the bytes passed are summed, all others as they were.
 use Prim.Native.Nat.{◌-◌, ◌≤◌}
 use mathlib.Core.Path.{◌≡◌}
 use lib.ListN.{length}

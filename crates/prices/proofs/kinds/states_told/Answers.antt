@@ -1,3 +1,4 @@
+-- `prices::kinds::states_told` meets its contract. Assumes nothing.
 use Rattle.std.proofs.Common.{◌≡◌, ℕ, ◌<◌, refl, ap, ◌∙◌, arith, length-set}
 use Rattle.prices.specs.Prices.{is_state, state_of}
 use Rattle.prices.specs.Kinds.{state_told}

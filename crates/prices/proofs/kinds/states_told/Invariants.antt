@@ -1,4 +1,4 @@
--- `prices::kinds::states_told` meets its contract. The invariant: the states of the disks passed are stored. Assumes nothing.
+-- The invariant of `prices::kinds::states_told`: the states of the disks passed are stored.
 use Rattle.std.proofs.Common.{◌≡◌, ℕ, ◌-◌, ◌<◌, ◌≤◌, length}
 use Rattle.prices.specs.Prices.{state_of}
 use Rattle.prices.specs.Kinds.{state_told}

@@ -1,3 +1,4 @@
+-- `prices::states::first_bad_state` meets its contract. Assumes nothing.
 use Rattle.std.proofs.Common.{not, sym, ap, ◌∙◌, zero-add, arith, below_more}
 use Rattle.bits.proofs.SearchLaws.{first_from_none, first_from_found}
 use Rattle.prices.specs.Prices.{is_state, state_of}

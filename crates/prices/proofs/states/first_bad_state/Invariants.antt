@@ -1,4 +1,4 @@
--- `prices::states::first_bad_state` meets its contract. The invariant: the states of the disks passed are states. Assumes nothing.
+-- The invariant of `prices::states::first_bad_state`: the states of the disks passed are states.
 use Rattle.std.proofs.Common.{◌≡◌, ℕ, ◌-◌, ◌<◌, ◌≤◌, false, not}
 use Rattle.prices.specs.Prices.{is_state, state_of}
 use Rattle.prices.proofs.states.first_bad_state.Given as goal

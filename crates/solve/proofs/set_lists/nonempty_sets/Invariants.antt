@@ -1,4 +1,4 @@
--- `solve::set_lists::nonempty_sets` meets its contract. The invariant: of the sets before s those that are not empty are gathered. Assumes nothing.
+-- The invariant of `solve::set_lists::nonempty_sets`: of the sets before s those that are not empty are gathered.
 use Prim.Native.Nat.{◌-◌, ◌≤◌}
 use Rattle.bits.specs.Numerals.{numerals}
 use Rattle.solve.proofs.GatherLaws.{Gathered}

@@ -1,3 +1,4 @@
+-- `soundness::columns::first_nonzero` meets its contract. Assumes nothing.
 use native.Mathlib.Omega.{arith}
 use Rattle.soundness.proofs.ByteLaws.{zero_more, first_nonzero_none, first_nonzero_found}
 use Rattle.soundness.proofs.columns.first_nonzero.Goals as goal

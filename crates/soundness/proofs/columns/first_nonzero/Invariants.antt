@@ -1,4 +1,4 @@
--- `soundness::columns::first_nonzero` meets its contract. The invariant: the bytes passed are zero. Assumes nothing.
+-- The invariant of `soundness::columns::first_nonzero`: the bytes passed are zero.
 use Prim.Native.Nat.{◌-◌, ◌≤◌}
 use lib.ListN.{length}
 use Rattle.soundness.proofs.ByteLaws.{ZeroTo}

@@ -1,5 +1,4 @@
--- `soundness::columns::lowest_by_sums` meets its contract. The invariant: `lowest` is the lowest column in which one of the equations before e fails. Assumes
--- nothing.
+-- The invariant of `soundness::columns::lowest_by_sums`: `lowest` is the lowest column in which one of the equations before e fails.
 use mathlib.Core.Path.{◌≡◌}
 use Prim.Native.Nat.{◌-◌, ◌≤◌}
 use lib.ListN.{length, take}

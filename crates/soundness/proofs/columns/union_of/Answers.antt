@@ -1,3 +1,4 @@
+-- `soundness::columns::union_of` meets its contract. Assumes nothing.
 use native.Mathlib.Omega.{arith}
 use Rattle.soundness.proofs.ByteLaws.{union_more}
 use Rattle.soundness.proofs.columns.union_of.Goals as goal

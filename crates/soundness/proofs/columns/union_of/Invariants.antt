@@ -1,4 +1,4 @@
--- `soundness::columns::union_of` meets its contract. The invariant: where the union so far is empty, the bytes passed are zero. Assumes nothing.
+-- The invariant of `soundness::columns::union_of`: where the union so far is empty, the bytes passed are zero.
 use mathlib.Core.Path.{◌≡◌}
 use Prim.Native.Nat.{◌-◌, ◌≤◌}
 use lib.ListN.{length}

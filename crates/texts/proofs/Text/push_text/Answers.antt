@@ -1,3 +1,4 @@
+-- `Text::push_text` meets its contract. Assumes nothing.
 use native.Mathlib.Omega.{arith}
 use Rattle.texts.proofs.TextLaws.{extended_by_nothing, piece_more, piece_whole}
 use Rattle.texts.proofs.Text.push_text.Goals as goal

@@ -1,4 +1,4 @@
--- `Text::push_text` meets its contract. The invariant: the bytes passed stand behind the text. Assumes nothing.
+-- The invariant of `Text::push_text`: the bytes passed stand behind the text.
 use Prim.Native.Nat.{◌-◌, ◌≤◌}
 use lib.ListN.{length, take}
 use Rattle.texts.specs.InnerTexts.{Extended}
