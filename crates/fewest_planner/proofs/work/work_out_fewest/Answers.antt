@@ -16,32 +16,26 @@ use Rattle.fewest_planner.proofs.ReadLaws.{fewest_for, worked_fewest}
 use Rattle.fewest_planner.proofs.work.work_out_fewest.Goals as goal
 
 pub lost_symbols-gone-requires : goal.lost_symbols-gone-requires
-lost_symbols-gone-requires c =
-    let code : LinearCode = linear c.args.code in
-    let asked : Asked = record { edition = c.args.edition; disks = c.args.disks.now; wanted = c.args.list.now } in
-    (layout_within code c.requires.within, disks_below code asked c.requires)
+lost_symbols-gone-requires c = (layout_within _ c.requires.within, disks_below _ _ c.requires)
 
 pub loss_of-loss-requires : goal.loss_of-loss-requires
-loss_of-loss-requires c =
-    let code : LinearCode = linear c.args.code in
-    let asked : Asked = record { edition = c.args.edition; disks = c.args.disks.now; wanted = c.args.list.now } in (
-      layout_within code c.requires.within,
-      disks_below code asked c.requires 0 c.requires.disks_good.count_from,
-      c.lost_symbols-gone.ensures.lost,
-      listed_small code asked c.requires,
-    )
+loss_of-loss-requires c = (
+  layout_within _ c.requires.within,
+  disks_below _ _ c.requires 0 c.requires.disks_good.count_from,
+  c.lost_symbols-gone.ensures.lost,
+  listed_small _ _ c.requires,
+)
 
 pub fewest-chosen-requires : goal.fewest-chosen-requires
 fewest-chosen-requires c =
     let code : LinearCode = linear c.args.code in
-    let asked : Asked = record { edition = c.args.edition; disks = c.args.disks.now; wanted = c.args.list.now } in
     let within = c.requires.within in
     let loss = c.loss_of-loss.ensures in (
       omega (arith, loss.symbols, within.symbols_to),
       omega (arith, within.data_to),
-      subst (λ (m : ℕ). Below code.data_symbols (take m code.rows)) (sym loss.symbols) (matrix_below code within),
-      λ s h. omega (arith, loss.symbols, survives_below code.layout asked.disks s (sym (loss.survivors s) ∙ h)),
-      λ s h. omega (arith, loss.symbols, lost_below code.layout asked.disks s (asked_is_lost code asked c.requires s (sym (loss.wanted s) ∙ h))),
+      subst (λ (m : ℕ). Below code.data_symbols (take m code.rows)) (sym loss.symbols) (matrix_below _ within),
+      λ s h. omega (arith, loss.symbols, survives_below code.layout c.args.disks.now s (sym (loss.survivors s) ∙ h)),
+      λ s h. omega (arith, loss.symbols, lost_below code.layout c.args.disks.now s (asked_is_lost _ _ c.requires s (sym (loss.wanted s) ∙ h))),
     )
 
 pub work_from-requires : goal.work_from-requires
