@@ -77,7 +77,7 @@ prove_library() {
 
 passed() { seconds=$(($(date +%s) - began)) && printf '%d:%02d' $((seconds / 60)) $((seconds % 60)); }
 
-# The crates of this run, by rt's logs: a crate has one from its start on, and at its end a line in it. -l names those that are proved, -L
+# The crates of this run, by library.sh's logs: a crate has one from its start on, and at its end a line in it. -l names those that are proved, -L
 # those that are at work.
 logs() {
     find target/log -name '*.out' -newer "$work/start" -exec grep "$1" '^rt: [a-z0-9_]* proved' {} + 2>/dev/null |
@@ -86,18 +86,16 @@ logs() {
 
 # At a terminal one line, which is written anew each second; elsewhere a line for each time that more is proved.
 report() {
-    most=0 said=''
+    said=''
     while sleep 1; do
         count=$(logs -l | wc -l)
-        # rt looks at all of them once more before the last, so that the count could fall
-        if [ "$count" -gt "$most" ]; then most=$count; fi
         now=$(logs -L | awk 'NR <= 2 { names = names (NR > 1 ? ", " : "") $0 } END { if (NR > 2) names = names " and " NR - 2 " more"; print names }')
-        if [ "$most" -ge $((crates - 1)) ]; then now=capi; fi
-        line="$most of $crates crates are proved, $(passed)${now:+, now $now}"
+        if [ "$count" -ge $((crates - 1)) ]; then now=capi; fi
+        line="$count of $crates crates are proved, $(passed)${now:+, now $now}"
         if [ -t 2 ]; then
             show_line "$line"
-        elif [ "$most $now" != "$said" ]; then
-            said="$most $now"
+        elif [ "$count $now" != "$said" ]; then
+            said="$count $now"
             echo "$line" >&2
         fi
     done
