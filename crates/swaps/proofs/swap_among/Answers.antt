@@ -1,44 +1,57 @@
-use mathlib.Core.Path.{sym, ap, ◌∙◌}
+use mathlib.Core.Path.{◌≡◌, sym, ap, ◌∙◌}
 use mathlib.Core.Bool.{true≢false}
-use Prim.Native.Nat.{◌≤◌, ◌<◌}
+use mathlib.Core.List.{List}
+use Prim.Native.Nat.{ℕ, ◌≤◌, ◌<◌}
 use native.Mathlib.Omega.{arith}
 use borrow.Author.Count.{below_more}
 use lib.ListN.{length, set}
 use Rattle.bits.specs.BitSets.{has}
+use Rattle.bits.specs.declared.BitSet.{BitSet}
 use Rattle.bits.specs.Numerals.{set_width, numeral, numerals}
 use Rattle.bits.proofs.NumeralLaws.{array_length, length_numerals, get_or_numerals, numerals_set}
+use Rattle.codes.specs.Codes.{LayoutWithin}
+use Rattle.codes.specs.Layouts.{symbols_of}
+use Rattle.codes.specs.declared.Layout.{Layout}
 use Rattle.swaps.specs.Swaps.{read_by}
 use Rattle.swaps.proofs.SwapLaws.{list_length, found_makes, none_lowers}
 use Rattle.swaps.proofs.swap_among.Goals as goal
 use Rattle.swaps.proofs.swap_among.Goals.{then-has+else-equation-count, else-has}
 
+-- A symbol before the end is a place of the array
+place_in_array : {layout : Layout} {target end : ℕ} → LayoutWithin layout → end ≤ symbols_of layout → target < end → target < set_width
+place_in_array within ends before = omega (arith, within.symbols_to)
+
+-- and so an index of the list of the array's sets
+place_in_list : {layout : Layout} {target end : ℕ} (sets : List BitSet) → LayoutWithin layout → end ≤ symbols_of layout → target < end → length sets ≡ set_width
+    → target < length (numerals sets)
+place_in_list sets within ends before full = omega (arith, length_numerals sets, within.symbols_to)
+
+-- A list as long as an array has an entry for each equation counted
+listed_fit : {count : ℕ} (all : List ℕ) → count ≤ set_width → length all ≡ set_width → count ≤ length all
+listed_fit all few full = omega arith
+
+-- What all sets read, with an empty one at the target
+others_read : (sets : List BitSet) (target : ℕ) (none : BitSet) {read : ℕ} → read ≡ read_by (numerals (set sets target none)) → numeral none ≡ 0
+    → read ≡ read_by (set (numerals sets) target 0)
+others_read sets target none read_is is_empty = read_is ∙ ap read_by (numerals_set sets target none ∙ ap (set (numerals sets) target) is_empty)
+
 pub loop-target-init : goal.loop-target-init
 loop-target-init c = (c.requires.1, λ t below from. absurd (omega arith))
 
 pub has-requires : goal.has-requires
-has-requires c =
-    let inside : c.loop-target.target < set_width = let pre = c.requires in omega (arith, c.loop-target-test.true, pre.2, pre.0.within.symbols_to) in
-    inside
+has-requires c = place_in_array c.requires.0.within c.requires.2 c.loop-target-test.true
 
 pub offset_bounds-sets-target : goal.offset_bounds-sets-target
-offset_bounds-sets-target c =
-    let inside : c.loop-target.target < set_width = let pre = c.requires in omega (arith, c.loop-target-test.true, pre.2, pre.0.within.symbols_to) in
-    omega (arith, inside)
+offset_bounds-sets-target c = omega (arith, place_in_array c.requires.0.within c.requires.2 c.loop-target-test.true)
 
 pub bounds-sets-target : goal.bounds-sets-target
-bounds-sets-target c =
-    let inside : c.loop-target.target < set_width = let pre = c.requires in omega (arith, c.loop-target-test.true, pre.2, pre.0.within.symbols_to) in
-    inside
+bounds-sets-target c = place_in_array c.requires.0.within c.requires.2 c.loop-target-test.true
 
 pub offset_bounds-others-target : goal.offset_bounds-others-target
-offset_bounds-others-target c =
-    let inside : c.loop-target.target < set_width = let pre = c.requires in omega (arith, c.loop-target-test.true, pre.2, pre.0.within.symbols_to) in
-    omega (arith, inside)
+offset_bounds-others-target c = omega (arith, place_in_array c.requires.0.within c.requires.2 c.loop-target-test.true)
 
 pub bounds-others-target : goal.bounds-others-target
-bounds-others-target c =
-    let inside : c.loop-target.target < set_width = let pre = c.requires in omega (arith, c.loop-target-test.true, pre.2, pre.0.within.symbols_to) in
-    inside
+bounds-others-target c = place_in_array c.requires.0.within c.requires.2 c.loop-target-test.true
 
 pub lowering_equation-equation-requires : goal.lowering_equation-equation-requires
 lowering_equation-equation-requires c =
@@ -47,44 +60,32 @@ lowering_equation-equation-requires c =
 
 pub returns-then-equation-count : goal.returns-then-equation-count
 returns-then-equation-count c =
-    let inside : c.loop-target.target < set_width = let pre = c.requires in omega (arith, c.loop-target-test.true, pre.2, pre.0.within.symbols_to) in
-    let has_place : c.loop-target.target < length (numerals c.args.sets) = let start = c in omega (arith, inside, length_numerals start.args.sets ∙ array_length start.args.sets _ start.well_formed.1.1.1.1.1.0) in
-    let listed_fit : c.args.equations.count ≤ length (numerals c.args.equations.sets) = omega (arith, c.requires.0.few, list_length c.args.equations _ c.well_formed.1.1.1.0) in
-    let start = c in
-    let a = start.args in
+    let a = c.args in
+    let pre = c.requires.0 in
     let loop = c.loop-target in
-    let others = c.read_by-read.ensures
-    ∙ ap read_by (numerals_set a.sets loop.target _ ∙ ap (set (numerals a.sets) loop.target) c.empty.ensures) in
-    found_makes a.layout a.states (numerals a.equations.sets) a.equations.count (has (numeral a.wanted))
-    (listed_fit) (numerals a.sets) loop.target
-    (has_place) _ _ a.cost others (get_or_numerals a.sets loop.target) start.requires.0.cost_is
-    c.lowering_equation-equation.result c.lowering_equation-equation.ensures c.if-equation-count.true
-    (sym c.has.ensures ∙ c.if-has.true)
+    found_makes a.layout a.states (numerals a.equations.sets) a.equations.count (has (numeral a.wanted)) (listed_fit _ pre.few (list_length a.equations _ c.well_formed.1.1.1.0))
+    (numerals a.sets) loop.target (place_in_list a.sets pre.within c.requires.2 c.loop-target-test.true (array_length a.sets _ c.well_formed.1.1.1.1.1.0)) _ _ a.cost
+    (others_read a.sets loop.target _ c.read_by-read.ensures c.empty.ensures) (get_or_numerals a.sets loop.target) pre.cost_is
+    c.lowering_equation-equation.result c.lowering_equation-equation.ensures c.if-equation-count.true (sym c.has.ensures ∙ c.if-has.true)
 
 pub overflow_add-target : goal.overflow_add-target
-overflow_add-target c =
-    let inside : c.loop-target.target < set_width = let pre = c.requires in omega (arith, c.loop-target-test.true, pre.2, pre.0.within.symbols_to) in
-    omega (arith, inside)
+overflow_add-target c = omega (arith, place_in_array c.requires.0.within c.requires.2 c.loop-target-test.true)
 
 pub loop-target-preserved : goal.loop-target-preserved
 loop-target-preserved c =
-    let inside : c.loop-target.target < set_width = let pre = c.requires in omega (arith, c.loop-target-test.true, pre.2, pre.0.within.symbols_to) in
-    let has_place : c.loop-target.target < length (numerals c.args.sets) = let start = c in omega (arith, inside, length_numerals start.args.sets ∙ array_length start.args.sets _ start.well_formed.1.1.1.1.1.0) in
-    let listed_fit : c.args.equations.count ≤ length (numerals c.args.equations.sets) = omega (arith, c.requires.0.few, list_length c.args.equations _ c.well_formed.1.1.1.0) in
-    let start = c in
-    let a = start.args in
-    let loop = c.loop-target in
-    let test = sym c.has.ensures in (
+    let a = c.args in
+    let pre = c.requires.0 in
+    let loop = c.loop-target in (
       omega arith,
       below_more _ loop.target loop.invariant.1
           (λ from.
           elim c.if-has.branch [
             | then-has+else-equation-count w ↦ λ e is_wanted.
-                none_lowers a.layout a.states (numerals a.equations.sets) a.equations.count (has (numeral a.wanted)) (listed_fit)
-                (numerals a.sets) loop.target (has_place) _ _ a.cost
-                (w.read_by-read.ensures ∙ ap read_by (numerals_set a.sets loop.target _ ∙ ap (set (numerals a.sets) loop.target) w.empty.ensures))
-                (get_or_numerals a.sets loop.target) start.requires.0.cost_is w.lowering_equation-equation.result w.lowering_equation-equation.ensures w.if-equation-count.false e
-            | else-has w ↦ λ e is_wanted. absurd (true≢false (sym is_wanted ∙ test ∙ w.if-has.false))
+                none_lowers a.layout a.states (numerals a.equations.sets) a.equations.count (has (numeral a.wanted)) (listed_fit _ pre.few (list_length a.equations _ c.well_formed.1.1.1.0))
+                (numerals a.sets) loop.target (place_in_list a.sets pre.within c.requires.2 c.loop-target-test.true (array_length a.sets _ c.well_formed.1.1.1.1.1.0)) _ _ a.cost
+                (others_read a.sets loop.target _ w.read_by-read.ensures w.empty.ensures) (get_or_numerals a.sets loop.target) pre.cost_is
+                w.lowering_equation-equation.result w.lowering_equation-equation.ensures w.if-equation-count.false e
+            | else-has w ↦ λ e is_wanted. absurd (true≢false (sym is_wanted ∙ sym c.has.ensures ∙ w.if-has.false))
           ]),
     )
 
