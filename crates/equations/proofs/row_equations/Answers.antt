@@ -1,5 +1,6 @@
 use mathlib.Core.Path.{◌≡◌, sym, ap, ap₂, ◌∙◌}
-use mathlib.Core.Bool.{cond, ◌&&◌}
+use mathlib.Core.Bool.{Bool, cond, ◌&&◌}
+use mathlib.Core.List.{List}
 use Prim.Native.Nat.{ℕ, ◌^◌, ◌≤◌, ◌<◌}
 use native.Mathlib.Omega.{arith}
 use lib.Bits.{bit_xor}
@@ -17,6 +18,10 @@ use Rattle.spans.specs.InnerSpans.{row_equations, unpivoted}
 use Rattle.equations.proofs.row_equations.Goals as goal
 use Rattle.equations.proofs.row_equations.Goals.{then-is_unpivoted, else-is_unpivoted}
 
+-- There are as many equations as symbols, with an empty one where none is chosen
+one_a_symbol : (pivots surviving : List ℕ) (symbols : ℕ) (chosen : ℕ → Bool) → length (row_equations pivots surviving symbols chosen) ≡ symbols
+one_a_symbol pivots surviving symbols chosen = length_tabulate symbols _
+
 pub loop-s-init : goal.loop-s-init
 loop-s-init c = (omega arith, c.empty_sets-equations.ensures)
 
@@ -25,9 +30,10 @@ loop-s-preserved c =
     let a = c.args in
     let pivots = take a.symbols (numerals a.pivots) in
     let surviving = take a.symbols (numerals a.surviving) in
-    let equation = λ (j : ℕ). cond (unpivoted pivots (has (numeral a.known)) j) (bit_xor (back_substitute pivots surviving (get_or surviving j 0)) (2 ^ j)) 0 in
-    let wanted = row_equations pivots surviving a.symbols (unpivoted pivots (has (numeral a.known))) in
-    let all : length wanted ≡ a.symbols = length_tabulate a.symbols equation in
+    let chosen = unpivoted pivots (has (numeral a.known)) in
+    let equation = λ (j : ℕ). cond (chosen j) (bit_xor (back_substitute pivots surviving (get_or surviving j 0)) (2 ^ j)) 0 in
+    let wanted = row_equations pivots surviving a.symbols chosen in
+    let all = one_a_symbol pivots surviving a.symbols chosen in
     let fits : length wanted ≤ set_width = omega arith in
     let loop = c.loop-s in
     let below : loop.s < a.symbols = omega arith in
@@ -39,7 +45,11 @@ loop-s-preserved c =
     ∙ ap (λ (pivot : ℕ). has (numeral a.known) loop.s && eqb pivot 0) (row_among_first a.pivots a.symbols loop.s below)) in (
       omega arith,
       elim c.if-is_unpivoted.branch [
-        | then-is_unpivoted w ↦ ap numerals w.equations-is ∙ numerals_set loop.equations loop.s _ ∙ stored_chosen wanted fits loop.s loop.invariant.1 within _ entry (test ∙ w.if-is_unpivoted.true) (w.sum.ensures ∙ ap₂ bit_xor (w.back_substitute-subset.ensures ∙ ap (back_substitute pivots surviving) (row_among_first a.surviving a.symbols loop.s below)) (w.with.ensures ∙ ap (λ (v : ℕ). with v loop.s) w.empty.ensures ∙ with_of_empty loop.s))
+        | then-is_unpivoted w ↦
+            ap numerals w.equations-is ∙ numerals_set loop.equations loop.s _
+            ∙ stored_chosen wanted fits loop.s loop.invariant.1 within _ entry (test ∙ w.if-is_unpivoted.true)
+            (w.sum.ensures ∙ ap₂ bit_xor (w.back_substitute-subset.ensures ∙ ap (back_substitute pivots surviving) (row_among_first a.surviving a.symbols loop.s below))
+            (w.with.ensures ∙ ap (λ (v : ℕ). with v loop.s) w.empty.ensures ∙ with_of_empty loop.s))
         | else-is_unpivoted w ↦ ap numerals w.equations-is ∙ stored_passed wanted fits loop.s loop.invariant.1 within _ entry (test ∙ w.if-is_unpivoted.false)
       ],
     )
@@ -49,8 +59,7 @@ returns c =
     let a = c.args in
     let pivots = take a.symbols (numerals a.pivots) in
     let surviving = take a.symbols (numerals a.surviving) in
-    let equation = λ (j : ℕ). cond (unpivoted pivots (has (numeral a.known)) j) (bit_xor (back_substitute pivots surviving (get_or surviving j 0)) (2 ^ j)) 0 in
-    let wanted = row_equations pivots surviving a.symbols (unpivoted pivots (has (numeral a.known))) in
-    let all : length wanted ≡ a.symbols = length_tabulate a.symbols equation in
-    let fits : length wanted ≤ set_width = omega arith in
-    stored_all wanted fits c.loop-s.s c.loop-s.invariant.1 (omega arith)
+    let chosen = unpivoted pivots (has (numeral a.known)) in
+    let wanted = row_equations pivots surviving a.symbols chosen in
+    let all = one_a_symbol pivots surviving a.symbols chosen in
+    stored_all wanted (omega arith) c.loop-s.s c.loop-s.invariant.1 (omega arith)
