@@ -15,13 +15,11 @@ returns-then-count-index c = sym (ap word (behind_count c.args.count (numerals c
 
 pub returns-then-index-ge-SET_WIDTH : goal.returns-then-index-ge-SET_WIDTH
 returns-then-index-ge-SET_WIDTH c =
-    let start = c in
-    sym (ap word (behind_all start.args.count (numerals start.args.sets) start.args.index (omega (arith, length_numerals start.args.sets ∙ array_length start.args.sets _ start.well_formed.0, c.if-index-ge-SET_WIDTH.true))))
+    sym (ap word (behind_all c.args.count (numerals c.args.sets) c.args.index (omega (arith, length_numerals c.args.sets ∙ array_length c.args.sets _ c.well_formed.0, c.if-index-ge-SET_WIDTH.true))))
 
 pub returns : goal.returns
 returns c =
-    let start = c in
     c.low_word.ensures
     ∙ ap word
-    (get_or_numerals start.args.sets start.args.index
-    ∙ one_listed start.args.count (numerals start.args.sets) start.args.index (omega (arith, c.if-count-index.false)))
+    (get_or_numerals c.args.sets c.args.index
+    ∙ one_listed c.args.count (numerals c.args.sets) c.args.index (omega (arith, c.if-count-index.false)))

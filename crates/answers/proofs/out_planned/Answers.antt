@@ -32,11 +32,10 @@ returns-in-Plan c =
 
 pub returns-in-Patterns : goal.returns-in-Patterns
 returns-in-Patterns c =
-    let start = c in
-    let patterns = numerals start.args.answer.patterns in
+    let patterns = numerals c.args.answer.patterns in
     let known = c.in-Patterns.is in
-    let fits = subst (λ (planned : Planned). PatternFits (with_patterns patterns planned)) known start.requires in
-    let first = get_or_numerals start.args.answer.patterns 0 ∙ first_of_some c.in-Patterns.count patterns fits.1 in
+    let fits = subst (λ (planned : Planned). PatternFits (with_patterns patterns planned)) known c.requires in
+    let first = get_or_numerals c.args.answer.patterns 0 ∙ first_of_some c.in-Patterns.count patterns fits.1 in
     ap₂ shown (c.low_word-first.ensures ∙ ap (λ (word : ℕ). word % 2 ^ 64) first ∙ mod-eq_of_lt fits.0) c.listed_count.ensures ∙ sym (ap (out patterns) known)
 
 pub returns-in-Refused : goal.returns-in-Refused

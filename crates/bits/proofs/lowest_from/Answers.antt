@@ -7,9 +7,8 @@ use Rattle.bits.proofs.lowest_from.Goals as goal
 
 pub returns : goal.returns
 returns c =
-    let start = c in
-    let args = start.args in
+    let args = c.args in
     c.first_difference.ensures.lowest
     ∙ ap (first_difference (numeral args.set))
     (c.common.ensures ∙ ap (bit_and (numeral args.set)) c.below.ensures)
-    ∙ lowest_from_bound (numeral args.set) args.bound start.requires
+    ∙ lowest_from_bound (numeral args.set) args.bound c.requires

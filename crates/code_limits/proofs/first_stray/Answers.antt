@@ -32,9 +32,8 @@ lowest_from-bit-requires c = omega (arith, c.requires.1)
 
 pub loop-bit-init : goal.loop-bit-init
 loop-bit-init c =
-    let start = c in
-    let sets = start.args.rows in
-    let data_symbols = start.args.data_symbols in
+    let sets = c.args.rows in
+    let data_symbols = c.args.data_symbols in
     let search = c.search in
     let row = search.row in
     let found = c.lowest_from-bit.ensures ∙ ap (λ (set : ℕ). first_from (has set) data_symbols (set_width - data_symbols)) (get_or_numerals sets row) in (

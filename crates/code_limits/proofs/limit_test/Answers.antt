@@ -5,8 +5,7 @@ use Rattle.code_limits.proofs.limit_test.Goals as goal
 
 pub overflow_mul-disks : goal.overflow_mul-disks
 overflow_mul-disks c =
-    let start = c in
-    omega (arith, mul-le-mul_right {m = start.args.disks} {n = 256} start.args.height (omega (arith, start.requires.0)), start.requires.1)
+    omega (arith, mul-le-mul_right {m = c.args.disks} {n = 256} c.args.height (omega (arith, c.requires.0)), c.requires.1)
 
 pub returns : goal.returns
 returns c = rw (

@@ -8,20 +8,16 @@ use Rattle.desk_answers.proofs.desk_text.Goals as goal
 
 pub returns-in_default : goal.returns-in_default
 returns-in_default c =
-    let told = c in
-    let read = told.read_code-reading in
-    let sheets = told in
+    let read = c.read_code-reading in
     holds_as _
-    (text_if_fine sheets.args.input.now _ (as_read read.result) sheets.code_sheet-sheet.ensures read.ensures.answer _ _ _
-    sheets.plan_sheet-plan.ensures c.byte_at-disk.ensures.0 c.check.ensures.answer (ap outcome told.in_default.is))
+    (text_if_fine c.args.input.now _ (as_read read.result) c.code_sheet-sheet.ensures read.ensures.answer _ _ _
+    c.plan_sheet-plan.ensures c.byte_at-disk.ensures.0 c.check.ensures.answer (ap outcome c.in_default.is))
     c.report.ensures
 
 pub returns : goal.returns
 returns c =
-    let told = c in
-    let read = told.read_code-reading in
-    let sheets = told in
+    let read = c.read_code-reading in
     holds_as _
-    (text_if_refused sheets.args.input.now _ (as_read read.result) sheets.code_sheet-sheet.ensures read.ensures.answer _
-    (ap outcome told.in-Refused.is))
+    (text_if_refused c.args.input.now _ (as_read read.result) c.code_sheet-sheet.ensures read.ensures.answer _
+    (ap outcome c.in-Refused.is))
     c.refusal_text.ensures

@@ -4,5 +4,4 @@ use Rattle.desk_answers.proofs.write_lines.Goals as goal
 
 pub returns : goal.returns
 returns c =
-    let copy = c in
-    let all = copied_as _ _ _ copy.desk_text.ensures copy.copy_text.ensures.value copy.copy_text.ensures.out_after in record { answer = all.0; out = all.1.0; short = all.1.1 }
+    let all = copied_as _ _ _ c.desk_text.ensures c.copy_text.ensures.value c.copy_text.ensures.out_after in record { answer = all.0; out = all.1.0; short = all.1.1 }

@@ -17,24 +17,22 @@ symbols-symbols-requires c =
 
 pub returns-in_default : goal.returns-in_default
 returns-in_default c =
-    let tested = c in
     let args = c.args in
     let read = as_read c.read_code-reading.result in
     let told = ap outcome c.in_default.is in
     let answer = verdict_is args.sheet.now args.contents.now args.stripe.now args.size read c.read_code-reading.ensures.answer c.symbols-symbols.ensures c.encode_test-verdict.ensures in record {
       answer = answer;
-      stripe = stripe_refused args.sheet.now args.contents.now args.stripe.now args.size read tested.read_code-reading.ensures.answer
-          (outcome tested.encode_test-verdict.result) _ answer told;
+      stripe = stripe_refused args.sheet.now args.contents.now args.stripe.now args.size read c.read_code-reading.ensures.answer
+          (outcome c.encode_test-verdict.result) _ answer told;
     }
 
 pub encode_symbols-requires : goal.encode_symbols-requires
 encode_symbols-requires c =
-    let tested = c in
     let args = c.args in
     let read = as_read c.read_code-reading.result in
     let lengths = fine_fits read c.symbols-symbols.result args.size (length args.contents.now) (length args.stripe.now) (sym c.encode_test-verdict.ensures ∙ ap outcome c.in-Fine.is) in
-    let limits = tested.read_code-reading.ensures.limits lengths.sheet_fine in (
-      omega (arith, limits.symbols_to, tested.symbols-symbols.ensures),
+    let limits = c.read_code-reading.ensures.limits lengths.sheet_fine in (
+      omega (arith, limits.symbols_to, c.symbols-symbols.ensures),
       omega (arith, limits.data_to),
       lengths.size_to,
       lengths.data_whole,
@@ -43,15 +41,14 @@ encode_symbols-requires c =
 
 pub returns : goal.returns
 returns c =
-    let tested = c in
     let args = c.args in
     let read = as_read c.read_code-reading.result in
     let code = read.code in
     let told = ap outcome c.in-Fine.is in
     let answer = verdict_is args.sheet.now args.contents.now args.stripe.now args.size read c.read_code-reading.ensures.answer c.symbols-symbols.ensures c.encode_test-verdict.ensures in record {
       answer = answer;
-      stripe = stripe_encoded args.sheet.now args.contents.now args.stripe.now args.size read tested.read_code-reading.ensures.answer
-          (outcome tested.encode_test-verdict.result) _ answer told
+      stripe = stripe_encoded args.sheet.now args.contents.now args.stripe.now args.size read c.read_code-reading.ensures.answer
+          (outcome c.encode_test-verdict.result) _ answer told
           (c.encode_symbols.ensures
-          ∙ ap (λ (count : ℕ). encoding args.size code.data_symbols (take count code.rows) args.contents.now) tested.symbols-symbols.ensures);
+          ∙ ap (λ (count : ℕ). encoding args.size code.data_symbols (take count code.rows) args.contents.now) c.symbols-symbols.ensures);
     }

@@ -21,19 +21,16 @@ loop-s-init c =
 
 pub overflow_mul-s : goal.overflow_mul-s
 overflow_mul-s c =
-    let start = c in
-    omega (arith, symbol_end_small c.loop-s.s start.args.symbols start.args.size start.requires.0 start.requires.2 c.loop-s-test.true)
+    omega (arith, symbol_end_small c.loop-s.s c.args.symbols c.args.size c.requires.0 c.requires.2 c.loop-s-test.true)
 
 pub overflow_mul-s-in-loop-s : goal.overflow_mul-s-in-loop-s
 overflow_mul-s-in-loop-s c =
-    let start = c in
-    omega (arith, symbol_end_small c.loop-s.s start.args.symbols start.args.size start.requires.0 start.requires.2 c.loop-s-test.true)
+    omega (arith, symbol_end_small c.loop-s.s c.args.symbols c.args.size c.requires.0 c.requires.2 c.loop-s-test.true)
 
 pub slice_bounds-encode_symbol-end : goal.slice_bounds-encode_symbol-end
 slice_bounds-encode_symbol-end c =
-    let start = c in
     let loop = c.loop-s in
-    omega (arith, symbol_ends_within loop.s start.args.symbols start.args.size c.loop-s-test.true, start.requires.4, loop.invariant.0.1)
+    omega (arith, symbol_ends_within loop.s c.args.symbols c.args.size c.loop-s-test.true, c.requires.4, loop.invariant.0.1)
 
 pub encode_symbol-requires : goal.encode_symbol-requires
 encode_symbol-requires c =
@@ -42,11 +39,10 @@ encode_symbol-requires c =
 
 pub loop-s-preserved : goal.loop-s-preserved
 loop-s-preserved c =
-    let start = c in
-    let args = start.args in
+    let args = c.args in
     let loop = c.loop-s in
-    written_next args.size args.data_symbols (numerals args.rows) args.contents.now args.stripe.now start.requires.3 args.symbols loop.stripe _ loop.s
-    start.requires.0 start.requires.4 c.loop-s-test.true loop.invariant
+    written_next args.size args.data_symbols (numerals args.rows) args.contents.now args.stripe.now c.requires.3 args.symbols loop.stripe _ loop.s
+    c.requires.0 c.requires.4 c.loop-s-test.true loop.invariant
     (rw (get_or_numerals args.rows loop.s) at c.encode_symbol.ensures)
 
 pub returns : goal.returns

@@ -16,11 +16,10 @@ eliminate_known-eliminated-requires c = (omega arith, omega arith)
 
 pub returns : goal.returns
 returns c =
-    let start = c in
-    let args = start.args in
+    let args = c.args in
     let solved = c.eliminate_known-eliminated.ensures in
     let are =
     entries_are_equations (unit_patterns args.data_symbols) (has (numeral args.known)) args.symbols (numerals args.rows)
-    (omega (arith, length_numerals args.rows, array_length args.rows _ start.well_formed.0)) solved.pivots solved.surviving c.row_equations-of_rows.ensures in
+    (omega (arith, length_numerals args.rows, array_length args.rows _ c.well_formed.0)) solved.pivots solved.surviving c.row_equations-of_rows.ensures in
     let gathered = c.nonempty_sets.ensures in
     record { count = gathered.count ∙ ap (λ (l : List ℕ). length l) are; sets = gathered.sets ∙ ap padded are }

@@ -1,4 +1,4 @@
--- `equations::row_equations` meets its contract. The invariant: the equations of the known symbols before s are stored. Assumes nothing.
+-- The invariant of `equations::row_equations`: the equations of the known symbols before s are stored.
 use mathlib.Core.Path.{◌≡◌}
 use Prim.Native.Nat.{◌-◌, ◌≤◌}
 use lib.ListN.{take}

@@ -19,11 +19,9 @@ symbols-requires c =
 pub sheet_length-requires : goal.sheet_length-requires
 sheet_length-requires c =
     let symbols_are : c.symbols.result ≡ symbols_of (family_layout c.args.family) = c.symbols.ensures ∙ ap symbols_of c.layout_of-layout.ensures in
-    let start = c in
-    omega (arith, symbols_are, symbols_to start.args.family start.requires)
+    omega (arith, symbols_are, symbols_to c.args.family c.requires)
 
 pub returns : goal.returns
 returns c =
     let symbols_are : c.symbols.result ≡ symbols_of (family_layout c.args.family) = c.symbols.ensures ∙ ap symbols_of c.layout_of-layout.ensures in
-    let start = c in
-    c.sheet_length.ensures ∙ ap sheet_length (symbols_are) ∙ sym (length_family_sheet start.args.family start.requires)
+    c.sheet_length.ensures ∙ ap sheet_length (symbols_are) ∙ sym (length_family_sheet c.args.family c.requires)

@@ -9,16 +9,14 @@ use Rattle.families.proofs.verdict_on.Goals as goal
 
 pub returns-then-not-is_listed : goal.returns-then-not-is_listed
 returns-then-not-is_listed c =
-    let start = c in
-    family_verdict_of_unlisted start.args.family start.args.buffer_length (sym c.is_listed.ensures ∙ c.if-not-is_listed.true)
+    family_verdict_of_unlisted c.args.family c.args.buffer_length (sym c.is_listed.ensures ∙ c.if-not-is_listed.true)
 
 pub sheet_length_of-requires : goal.sheet_length_of-requires
 sheet_length_of-requires c = sym c.is_listed.ensures ∙ c.if-not-is_listed.false
 
 pub returns : goal.returns
 returns c =
-    let listed = c in
-    let a = listed.args in
+    let a = c.args in
     c.or_if.ensures
     ∙ ap (λ (size : ℕ). or_if Fine (ltb a.buffer_length size) (37 at 0)) c.sheet_length_of.ensures
-    ∙ family_verdict_of_listed a.family a.buffer_length (sym listed.is_listed.ensures ∙ listed.if-not-is_listed.false)
+    ∙ family_verdict_of_listed a.family a.buffer_length (sym c.is_listed.ensures ∙ c.if-not-is_listed.false)

@@ -18,10 +18,9 @@ code_of-requires c =
 
 pub write_code-requires : goal.write_code-requires
 write_code-requires c =
-    let told = c in
-    let a = told.args in
+    let a = c.args in
     let size = length a.buffer.now in
-    let fine = sym told.verdict_on-verdict.ensures ∙ ap outcome told.in-Fine.is in
+    let fine = sym c.verdict_on-verdict.ensures ∙ ap outcome c.in-Fine.is in
     let made = c.code_of.ensures in (
       subst WithinLimits (sym made) (family_code_within_limits a.family (fine_so_listed a.family size fine)),
       omega (arith, ap (λ (code : LinearCode). length (code_sheet code)) made, fine_so_room a.family size fine),
@@ -29,24 +28,19 @@ write_code-requires c =
 
 pub sheet_length_of-requires : goal.sheet_length_of-requires
 sheet_length_of-requires c =
-    let told = c in
-    let a = told.args in
-    let fine = sym told.verdict_on-verdict.ensures ∙ ap outcome told.in-Fine.is in
+    let a = c.args in
+    let fine = sym c.verdict_on-verdict.ensures ∙ ap outcome c.in-Fine.is in
     fine_so_listed a.family (length a.buffer.now) fine
 
 pub returns-in-Fine : goal.returns-in-Fine
 returns-in-Fine c =
-    let written = c in
-    let made = written in
-    let told = made in
-    let a = told.args in
-    let fine = sym told.verdict_on-verdict.ensures ∙ ap outcome told.in-Fine.is in
-    let call = written_call a.family a.buffer.now _ _ fine c.sheet_length_of.ensures (written.write_code.ensures ∙ ap (λ (code : LinearCode). at_front (code_sheet code) a.buffer.now) made.code_of.ensures) in
+    let a = c.args in
+    let fine = sym c.verdict_on-verdict.ensures ∙ ap outcome c.in-Fine.is in
+    let call = written_call a.family a.buffer.now _ _ fine c.sheet_length_of.ensures (c.write_code.ensures ∙ ap (λ (code : LinearCode). at_front (code_sheet code) a.buffer.now) c.code_of.ensures) in
     record { answer = call.0; buffer = call.1.0; read_back = call.1.1 }
 
 pub returns-in-Refused : goal.returns-in-Refused
 returns-in-Refused c =
-    let answered = c in
-    let a = answered.args in
-    let call = refused_call a.family a.buffer.now _ (sym answered.verdict_on-verdict.ensures ∙ ap outcome c.in-Refused.is) in
+    let a = c.args in
+    let call = refused_call a.family a.buffer.now _ (sym c.verdict_on-verdict.ensures ∙ ap outcome c.in-Refused.is) in
     record { answer = call.0; buffer = call.1.0; read_back = call.1.1 }

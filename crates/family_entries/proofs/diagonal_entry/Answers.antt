@@ -14,8 +14,7 @@ returns-then-p-from c = simp (le-ltb _ _ c.if-p-from.true) c.empty.ensures
 
 pub identity_row-requires : goal.identity_row-requires
 identity_row-requires c =
-    let start = c in
-    (start.requires.0, start.requires.4, omega (arith, c.if-p-from.false))
+    (c.requires.0, c.requires.4, omega (arith, c.if-p-from.false))
 
 pub returns : goal.returns
 unfolding diagonal_entry

@@ -8,8 +8,7 @@ use Rattle.family_entries.proofs.entry_of.Goals as goal
 
 pub identity_row-requires : goal.identity_row-requires
 identity_row-requires c =
-    let start = c in
-    (start.requires.0, start.requires.3, start.requires.2 c.if-parity-eq0.true)
+    (c.requires.0, c.requires.3, c.requires.2 c.if-parity-eq0.true)
 
 pub returns-then-parity-eq0 : goal.returns-then-parity-eq0
 returns-then-parity-eq0 c =
@@ -19,28 +18,25 @@ returns-then-parity-eq0 c =
 pub liberation_entry-requires : goal.liberation_entry-requires
 liberation_entry-requires c =
     let e = c.in-Liberation.is in
-    let start = c in
-    (sym (ap listed e) ∙ start.requires.0, refl, omega (arith, start.requires.1, ap family_height e), omega (arith, start.requires.3, ap data_disks e))
+    (sym (ap listed e) ∙ c.requires.0, refl, omega (arith, c.requires.1, ap family_height e), omega (arith, c.requires.3, ap data_disks e))
 
 pub diagonal_entry-requires : goal.diagonal_entry-requires
 diagonal_entry-requires c =
     let e = c.in-RowDiagonal.is in
-    let start = c in
-    let h = sym (ap listed e) ∙ start.requires.0 in
+    let h = sym (ap listed e) ∙ c.requires.0 in
     let b = row_diagonal_bounds _ h in
     let row = ap family_height e in
     let disk = ap data_disks e in
-    (h, omega (arith, b), omega (arith, start.requires.1, row), omega (arith, start.requires.3, disk), omega (arith, start.requires.3, disk))
+    (h, omega (arith, b), omega (arith, c.requires.1, row), omega (arith, c.requires.3, disk), omega (arith, c.requires.3, disk))
 
 pub diagonal_entry-requires-in-EvenOdd : goal.diagonal_entry-requires-in-EvenOdd
 diagonal_entry-requires-in-EvenOdd c =
     let e = c.in-EvenOdd.is in
-    let start = c in
-    let h = sym (ap listed e) ∙ start.requires.0 in
+    let h = sym (ap listed e) ∙ c.requires.0 in
     let b = even_odd_bounds _ h in
     let row = ap family_height e in
     let disk = ap data_disks e in
-    (h, omega (arith, b), omega (arith, start.requires.1, row), omega (arith, start.requires.3, disk), omega (arith, start.requires.3, disk))
+    (h, omega (arith, b), omega (arith, c.requires.1, row), omega (arith, c.requires.3, disk), omega (arith, c.requires.3, disk))
 
 pub returns-in-SingleParity : goal.returns-in-SingleParity
 returns-in-SingleParity c =

@@ -38,8 +38,7 @@ nonzero_rem-extra_row-2 c = omega (arith, listed_bounds c.args.family c.requires
 
 pub identity_row-requires : goal.identity_row-requires
 identity_row-requires c =
-    let start = c in
-    (start.requires.0, start.requires.2, mod_is_row start.args.family start.requires.0 _ _ start.requires.1)
+    (c.requires.0, c.requires.2, mod_is_row c.args.family c.requires.0 _ _ c.requires.1)
 
 pub returns : goal.returns
 unfolding extra_entry

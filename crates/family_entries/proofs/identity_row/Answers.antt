@@ -31,7 +31,6 @@ with-requires c = omega (
 
 pub returns : goal.returns
 returns c =
-    let laid = c in
-    let a = laid.args in
+    let a = c.args in
     c.with.ensures
-    ∙ entry_made a.family _ a.disk a.row _ _ laid.layout_of-layout.ensures c.first_symbol.ensures c.empty.ensures
+    ∙ entry_made a.family _ a.disk a.row _ _ c.layout_of-layout.ensures c.first_symbol.ensures c.empty.ensures

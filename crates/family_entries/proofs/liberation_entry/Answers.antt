@@ -16,8 +16,7 @@ identity_row-diagonal-requires c = (c.requires.0, c.requires.3, mod_is_row c.arg
 
 pub extra_entry-requires : goal.extra_entry-requires
 extra_entry-requires c =
-    let start = c in
-    (start.requires.0, start.requires.1, start.requires.3)
+    (c.requires.0, c.requires.1, c.requires.3)
 
 pub returns : goal.returns
 returns c = c.sum.ensures ∙ ap₂ bit_xor c.identity_row-diagonal.ensures c.extra_entry.ensures

@@ -22,18 +22,15 @@ data_disks_of-requires c = c.requires
 
 pub first_symbol-data_symbols-requires : goal.first_symbol-data_symbols-requires
 first_symbol-data_symbols-requires c =
-    let laid = c in
-    let b = layout_bounds laid.args.family laid.requires _ laid.layout_of-layout.ensures in
+    let b = layout_bounds c.args.family c.requires _ c.layout_of-layout.ensures in
     (omega (arith, c.data_disks_of.ensures), omega arith, omega arith)
 
 pub loop-symbol-init : goal.loop-symbol-init
 loop-symbol-init c =
-    let counted = c in
-    let start = counted in
-    let symbols = counted.symbols-symbols.ensures ∙ ap symbols_of counted.layout_of-layout.ensures in (
+    let symbols = c.symbols-symbols.ensures ∙ ap symbols_of c.layout_of-layout.ensures in (
       omega arith,
       symbols,
-      omega (arith, symbols, symbols_to start.args.family start.requires),
+      omega (arith, symbols, symbols_to c.args.family c.requires),
       c.empty_sets-rows.ensures,
     )
 
@@ -42,22 +39,19 @@ row_of-requires c = (c.requires, omega (arith, c.loop-symbol-test.true, c.loop-s
 
 pub loop-symbol-preserved : goal.loop-symbol-preserved
 loop-symbol-preserved c =
-    let turn = c in
-    let family = turn.args.family in
-    let rows = turn.loop-symbol.rows in
-    let symbol = turn.loop-symbol.symbol in (
+    let family = c.args.family in
+    let rows = c.loop-symbol.rows in
+    let symbol = c.loop-symbol.symbol in (
       omega arith,
-      turn.loop-symbol.invariant.1,
-      turn.loop-symbol.invariant.2,
+      c.loop-symbol.invariant.1,
+      c.loop-symbol.invariant.2,
       numerals_set rows symbol c.row_of.result
-          ∙ rows_more (family_row family) _ turn.loop-symbol.invariant.2 symbol turn.loop-symbol.invariant.3 (omega arith) c.row_of.ensures,
+          ∙ rows_more (family_row family) _ c.loop-symbol.invariant.2 symbol c.loop-symbol.invariant.3 (omega arith) c.row_of.ensures,
     )
 
 pub returns : goal.returns
 returns c =
     let end = c.loop-symbol in
-    let sized = c in
-    let laid = sized in
-    let data_symbols = sized.first_symbol-data_symbols.ensures ∙ ap₂ first_symbol laid.layout_of-layout.ensures sized.data_disks_of.ensures in
-    family_code_of_parts laid.args.family _ _ _ _ laid.layout_of-layout.ensures sized.symbols-symbols.ensures data_symbols
-    (rows_all (family_row laid.args.family) _ end.invariant.2 end.symbol end.invariant.3 (omega arith))
+    let data_symbols = c.first_symbol-data_symbols.ensures ∙ ap₂ first_symbol c.layout_of-layout.ensures c.data_disks_of.ensures in
+    family_code_of_parts c.args.family _ _ _ _ c.layout_of-layout.ensures c.symbols-symbols.ensures data_symbols
+    (rows_all (family_row c.args.family) _ end.invariant.2 end.symbol end.invariant.3 (omega arith))

@@ -15,20 +15,17 @@ loop-disk-init c = (omega arith, c.empty-total.ensures)
 
 pub entry_of-next-requires : goal.entry_of-next-requires
 entry_of-next-requires c =
-    let start = c in
-    (start.requires.0, start.requires.1, start.requires.2, omega (arith, c.loop-disk-test.true, c.data_disks_of-disks.ensures))
+    (c.requires.0, c.requires.1, c.requires.2, omega (arith, c.loop-disk-test.true, c.data_disks_of-disks.ensures))
 
 pub loop-disk-preserved : goal.loop-disk-preserved
 loop-disk-preserved c =
-    let turn = c in
-    let a = turn.args in
+    let a = c.args in
     let term = entry_of a.family a.parity a.row in
-    (omega arith, sum_over_turn turn.loop-disk.disk term _ _ _ turn.loop-disk.invariant.1 c.entry_of-next.ensures c.sum-total.ensures)
+    (omega arith, sum_over_turn c.loop-disk.disk term _ _ _ c.loop-disk.invariant.1 c.entry_of-next.ensures c.sum-total.ensures)
 
 pub returns : goal.returns
 returns c =
     let end = c.loop-disk in
-    let summed = c in
-    let a = summed.args in
-    let disks : summed.data_disks_of-disks.result ≡ data_disks a.family = summed.data_disks_of-disks.ensures in
+    let a = c.args in
+    let disks : c.data_disks_of-disks.result ≡ data_disks a.family = c.data_disks_of-disks.ensures in
     sum_over_done (data_disks a.family) end.disk (entry_of a.family a.parity a.row) _ (omega arith) (omega arith) end.invariant.1

@@ -13,14 +13,12 @@ returns-then-parity-eq0 c =
 pub row_diagonal_q-requires : goal.row_diagonal_q-requires
 row_diagonal_q-requires c =
     let e = c.in-RowDiagonal.is in
-    let start = c in
-    (sym (ap listed e) ∙ start.requires.0, omega (arith, start.requires.1, ap family_height e))
+    (sym (ap listed e) ∙ c.requires.0, omega (arith, c.requires.1, ap family_height e))
 
 pub even_odd_q-requires : goal.even_odd_q-requires
 even_odd_q-requires c =
     let e = c.in-EvenOdd.is in
-    let start = c in
-    (sym (ap listed e) ∙ start.requires.0, omega (arith, start.requires.1, ap family_height e))
+    (sym (ap listed e) ∙ c.requires.0, omega (arith, c.requires.1, ap family_height e))
 
 pub returns-in-SingleParity : goal.returns-in-SingleParity
 returns-in-SingleParity c =

@@ -6,13 +6,10 @@ use Rattle.family_matrices.proofs.row_diagonal_q.Goals as goal
 
 pub returns-then-p-from : goal.returns-then-p-from
 returns-then-p-from c =
-    let start = c in
-    c.data_sum-of_data.ensures ∙ row_diagonal_without_parity start.args.p start.args.row start.requires.1 c.if-p-from.true
+    c.data_sum-of_data.ensures ∙ row_diagonal_without_parity c.args.p c.args.row c.requires.1 c.if-p-from.true
 
 pub returns : goal.returns
 returns c =
-    let tested = c in
-    let start = tested in
     c.sum.ensures
-    ∙ ap₂ bit_xor tested.data_sum-of_data.ensures c.data_sum.ensures
-    ∙ row_diagonal_with_parity start.args.p start.args.row start.requires.1 tested.if-p-from.false
+    ∙ ap₂ bit_xor c.data_sum-of_data.ensures c.data_sum.ensures
+    ∙ row_diagonal_with_parity c.args.p c.args.row c.requires.1 c.if-p-from.false

@@ -16,46 +16,39 @@ data_disks_of-data_disks-requires c = c.requires.0
 
 pub disk_of-disk-requires : goal.disk_of-disk-requires
 disk_of-disk-requires c =
-    let start = c in
-    (layout_bounds start.args.family start.requires.0 _ c.layout_of-layout.ensures).height_from
+    (layout_bounds c.args.family c.requires.0 _ c.layout_of-layout.ensures).height_from
 
 pub first_symbol-requires : goal.first_symbol-requires
 first_symbol-requires c =
-    let start = c in
-    let b = layout_bounds start.args.family start.requires.0 _ c.layout_of-layout.ensures in
-    let on_array = disk_of_symbol start.args.family start.requires.0 start.args.symbol start.requires.1 in
+    let b = layout_bounds c.args.family c.requires.0 _ c.layout_of-layout.ensures in
+    let on_array = disk_of_symbol c.args.family c.requires.0 c.args.symbol c.requires.1 in
     let disks = ap (λ (l : Layout). l.disks) c.layout_of-layout.ensures in
     (omega (arith, (c.disk_of-disk.ensures ∙ ap (λ (l : Layout). disk_of l c.args.symbol) c.layout_of-layout.ensures), on_array, disks), omega arith, omega arith)
 
 pub overflow_sub-row : goal.overflow_sub-row
 overflow_sub-row c =
-    let start = c in
-    omega (arith, (c.first_symbol.ensures ∙ ap₂ first_symbol c.layout_of-layout.ensures (c.disk_of-disk.ensures ∙ ap (λ (l : Layout). disk_of l c.args.symbol) c.layout_of-layout.ensures)), first_of_symbol start.args.family start.requires.0 start.args.symbol)
+    omega (arith, (c.first_symbol.ensures ∙ ap₂ first_symbol c.layout_of-layout.ensures (c.disk_of-disk.ensures ∙ ap (λ (l : Layout). disk_of l c.args.symbol) c.layout_of-layout.ensures)), first_of_symbol c.args.family c.requires.0 c.args.symbol)
 
 pub identity_row-requires : goal.identity_row-requires
 identity_row-requires c =
-    let start = c in
-    let row = row_of_symbol start.args.family start.requires.0 start.args.symbol in
-    (start.requires.0, omega (arith, c.if-disk-data_disks.true, c.data_disks_of-data_disks.ensures), omega (arith, row, (c.first_symbol.ensures ∙ ap₂ first_symbol c.layout_of-layout.ensures (c.disk_of-disk.ensures ∙ ap (λ (l : Layout). disk_of l c.args.symbol) c.layout_of-layout.ensures))))
+    let row = row_of_symbol c.args.family c.requires.0 c.args.symbol in
+    (c.requires.0, omega (arith, c.if-disk-data_disks.true, c.data_disks_of-data_disks.ensures), omega (arith, row, (c.first_symbol.ensures ∙ ap₂ first_symbol c.layout_of-layout.ensures (c.disk_of-disk.ensures ∙ ap (λ (l : Layout). disk_of l c.args.symbol) c.layout_of-layout.ensures))))
 
 pub returns-then-disk-data_disks : goal.returns-then-disk-data_disks
 returns-then-disk-data_disks c =
-    let firsts = c in
-    let a = firsts.args in
+    let a = c.args in
     c.identity_row.ensures
-    ∙ family_row_of_data_disk a.family a.symbol _ _ _ firsts.data_disks_of-data_disks.ensures (c.disk_of-disk.ensures ∙ ap (λ (l : Layout). disk_of l c.args.symbol) c.layout_of-layout.ensures)
+    ∙ family_row_of_data_disk a.family a.symbol _ _ _ c.data_disks_of-data_disks.ensures (c.disk_of-disk.ensures ∙ ap (λ (l : Layout). disk_of l c.args.symbol) c.layout_of-layout.ensures)
     (ap (λ (first : ℕ). a.symbol - first) (c.first_symbol.ensures ∙ ap₂ first_symbol c.layout_of-layout.ensures (c.disk_of-disk.ensures ∙ ap (λ (l : Layout). disk_of l c.args.symbol) c.layout_of-layout.ensures))) c.if-disk-data_disks.true
 
 pub parity_row-requires : goal.parity_row-requires
 parity_row-requires c =
-    let start = c in
-    let row = row_of_symbol start.args.family start.requires.0 start.args.symbol in
-    (start.requires.0, omega (arith, row, (c.first_symbol.ensures ∙ ap₂ first_symbol c.layout_of-layout.ensures (c.disk_of-disk.ensures ∙ ap (λ (l : Layout). disk_of l c.args.symbol) c.layout_of-layout.ensures))))
+    let row = row_of_symbol c.args.family c.requires.0 c.args.symbol in
+    (c.requires.0, omega (arith, row, (c.first_symbol.ensures ∙ ap₂ first_symbol c.layout_of-layout.ensures (c.disk_of-disk.ensures ∙ ap (λ (l : Layout). disk_of l c.args.symbol) c.layout_of-layout.ensures))))
 
 pub returns : goal.returns
 returns c =
-    let firsts = c in
-    let a = firsts.args in
+    let a = c.args in
     c.parity_row.ensures
-    ∙ family_row_of_parity_disk a.family a.symbol _ _ _ firsts.data_disks_of-data_disks.ensures (c.disk_of-disk.ensures ∙ ap (λ (l : Layout). disk_of l c.args.symbol) c.layout_of-layout.ensures)
+    ∙ family_row_of_parity_disk a.family a.symbol _ _ _ c.data_disks_of-data_disks.ensures (c.disk_of-disk.ensures ∙ ap (λ (l : Layout). disk_of l c.args.symbol) c.layout_of-layout.ensures)
     (ap (λ (first : ℕ). a.symbol - first) (c.first_symbol.ensures ∙ ap₂ first_symbol c.layout_of-layout.ensures (c.disk_of-disk.ensures ∙ ap (λ (l : Layout). disk_of l c.args.symbol) c.layout_of-layout.ensures))) c.if-disk-data_disks.false

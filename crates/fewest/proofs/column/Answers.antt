@@ -1,3 +1,4 @@
+-- `fewest::column` meets its contract. Assumes nothing.
 use mathlib.Core.Path.{◌≡◌, sym, ap, ◌∙◌}
 use native.Mathlib.Omega.{arith}
 use Rattle.bits.specs.Numerals.{numeral, numerals}

@@ -1,4 +1,4 @@
--- `fewest::column` meets its contract. The invariant: the rows before s have their bits in the column. Assumes nothing.
+-- The invariant of `fewest::column`: the rows before s have their bits in the column.
 use Prim.Native.Nat.{◌-◌, ◌≤◌}
 use Rattle.bits.specs.Numerals.{numeral, numerals}
 use Rattle.fewest.proofs.LoopLaws.{ColumnTo}

@@ -1,4 +1,4 @@
--- `fewest::columns` meets its contract. The invariant: the first i columns are stored. Assumes nothing.
+-- The invariant of `fewest::columns`: the first i columns are stored.
 use mathlib.Core.Path.{◌≡◌}
 use Prim.Native.Nat.{ℕ, ◌-◌, ◌≤◌, ◌<◌}
 use lib.ListN.{length, get_or, take}

@@ -16,14 +16,13 @@ use Rattle.fewest.proofs.fewest.Goals as goal
 
 pub search-found-requires : goal.search-found-requires
 search-found-requires c =
-    let start = c in
-    let args = start.args in
+    let args = c.args in
     let array = c.below-array.ensures in
     let survivors = c.common-survivors.ensures ∙ ap (bit_and (numeral args.known)) array in
     let targets = c.common-targets.ensures ∙ ap (bit_and (numeral args.wanted)) array in
-    let survivors_small = subst (λ (x : ℕ). x < 2 ^ set_width) (sym survivors) (cut_small (numeral args.known) args.symbols start.requires.0) in (
+    let survivors_small = subst (λ (x : ℕ). x < 2 ^ set_width) (sym survivors) (cut_small (numeral args.known) args.symbols c.requires.0) in (
       c.first_images-images.ensures.few,
-      subst (λ (x : ℕ). x < 2 ^ set_width) (sym targets) (cut_small (numeral args.wanted) args.symbols start.requires.0),
+      subst (λ (x : ℕ). x < 2 ^ set_width) (sym targets) (cut_small (numeral args.wanted) args.symbols c.requires.0),
       omega (arith, c.empty.ensures),
       survivors_small,
       survivors_small,
@@ -31,14 +30,13 @@ search-found-requires c =
 
 pub returns : goal.returns
 returns c =
-    let start = c in
-    let args = start.args in
+    let args = c.args in
     let rows = take args.symbols (numerals args.rows) in
     let array = c.below-array.ensures in
     let common = c.common-survivors in
     let common2 = c.common-targets in
-    let same_known = ap has (common.ensures ∙ ap (bit_and (numeral args.known)) array) ∙ cut_same (numeral args.known) args.symbols start.requires.0 start.requires.3 in
-    let same_wanted = ap has (common2.ensures ∙ ap (bit_and (numeral args.wanted)) array) ∙ cut_same (numeral args.wanted) args.symbols start.requires.0 start.requires.4 in
+    let same_known = ap has (common.ensures ∙ ap (bit_and (numeral args.known)) array) ∙ cut_same (numeral args.known) args.symbols c.requires.0 c.requires.3 in
+    let same_wanted = ap has (common2.ensures ∙ ap (bit_and (numeral args.wanted)) array) ∙ cut_same (numeral args.wanted) args.symbols c.requires.0 c.requires.4 in
     let involved = either (numeral common.result) (numeral common2.result) in
     let first = c.first_images-images in
     fewest_by_involved rows involved

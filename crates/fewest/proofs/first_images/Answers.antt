@@ -21,22 +21,21 @@ use Rattle.fewest.proofs.first_images.Goals as goal
 
 pub returns : goal.returns
 returns c =
-    let start = c in
-    let args = start.args in
+    let args = c.args in
     let rows = take args.symbols (numerals args.rows) in
     let involved = either (numeral args.known) (numeral args.wanted) in
     let joined : has (numeral c.union.result) ≡ involved =
     ap has c.union.ensures ∙ fun_ext (has_union (numeral args.known) (numeral args.wanted)) in
     let cut : take args.symbols (numerals c.surviving_rows-involved.result) ≡ survivors involved rows =
     ap (take args.symbols) c.surviving_rows-involved.ensures
-    ∙ take_known args.symbols (numerals args.rows) (has (numeral c.union.result)) (omega (arith, length_numerals args.rows, array_length args.rows _ start.well_formed.0))
+    ∙ take_known args.symbols (numerals args.rows) (has (numeral c.union.result)) (omega (arith, length_numerals args.rows, array_length args.rows _ c.well_formed.0))
     ∙ ap (λ (known : ℕ → Bool). survivors known rows) joined in
     let apart = c.spread-apart.result in
     let gathered = c.nonempty_sets in record {
       few = omega (arith, gathered.ensures.count, length_nonempty (take args.data_symbols (numerals apart)), length-take-le args.data_symbols (numerals apart) (omega (arith, c.spread-apart.ensures.held)));
       images = images_nonempty (survivors involved rows) (has 0) args.data_symbols (numerals apart) (omega (arith, c.spread-apart.ensures.held))
           (c.spread-apart.ensures.kept (survivors involved rows) (has 0)
-          (columns_images (survivors involved rows) args.data_symbols (numerals c.columns-images.result) (survivors_below args.data_symbols involved rows start.requires.2)
+          (columns_images (survivors involved rows) args.data_symbols (numerals c.columns-images.result) (survivors_below args.data_symbols involved rows c.requires.2)
           (subst (λ (cut_rows : List ℕ). (i : ℕ) → i < args.data_symbols → IsColumn cut_rows i (get_or (numerals c.columns-images.result) i 0)) cut c.columns-images.ensures)))
           gathered.ensures.count gathered.ensures.sets;
     }

@@ -1,4 +1,4 @@
--- `fewest::next_image` meets its contract. The invariant: of the first i images one that has a wanted symbol, or none has one. Assumes nothing.
+-- The invariant of `fewest::next_image`: of the first i images one that has a wanted symbol, or none has one.
 use Prim.Native.Nat.{◌-◌, ◌≤◌}
 use Rattle.bits.specs.Numerals.{numeral, numerals}
 use Rattle.fewest.proofs.LoopLaws.{NextTo}

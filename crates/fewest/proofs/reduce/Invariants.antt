@@ -1,4 +1,4 @@
--- `fewest::reduce` meets its contract. The invariant: the first i images are reduced. Assumes nothing.
+-- The invariant of `fewest::reduce`: the first i images are reduced.
 use mathlib.Core.Path.{◌≡◌}
 use Prim.Native.Nat.{◌-◌, ◌^◌, ◌≤◌}
 use lib.ListN.{length}

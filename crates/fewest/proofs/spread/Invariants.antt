@@ -1,4 +1,4 @@
--- `fewest::spread` meets its contract. The invariant: what held of the images holds; in the inner loop, the first j images are reduced. Assumes nothing.
+-- The invariant of `fewest::spread`: what held of the images holds; in the inner loop, the first j images are reduced.
 use mathlib.Core.Path.{◌≡◌}
 use mathlib.Core.Bool.{Bool}
 use mathlib.Core.List.{List}

@@ -5,10 +5,9 @@ use Rattle.fewest.proofs.symbols_needed.Goals as goal
 
 pub returns : goal.returns
 returns c =
-    let start = c in
-    let args = start.args in
+    let args = c.args in
     λ rows taken other given enough within has_taken.
-    let meets = image_meets rows (numeral args.wanted) (numeral args.allowed) start.requires.1 start.requires.2 taken other args.total (numerals args.images) given enough within in
-    let sums = sum_meets rows (numeral args.wanted) (numeral args.allowed) start.requires.1 start.requires.2 taken other args.total (numerals args.images) given enough within in
+    let meets = image_meets rows (numeral args.wanted) (numeral args.allowed) c.requires.1 c.requires.2 taken other args.total (numerals args.images) given enough within in
+    let sums = sum_meets rows (numeral args.wanted) (numeral args.allowed) c.requires.1 c.requires.2 taken other args.total (numerals args.images) given enough within in
     let alone = c.with_images-alone.ensures taken other meets (needed_none _ c.empty.ensures) in
     needed_besides (c.with_images-all.ensures taken other meets (c.with_pairs-pairs.ensures taken other sums alone)) has_taken

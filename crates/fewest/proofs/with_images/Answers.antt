@@ -1,3 +1,4 @@
+-- `fewest::with_images` meets its contract. Assumes nothing.
 use native.Mathlib.Omega.{arith}
 use Rattle.bits.proofs.NumeralLaws.{get_or_numerals}
 use Rattle.fewest.proofs.with_images.Goals as goal

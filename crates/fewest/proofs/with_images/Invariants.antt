@@ -1,4 +1,4 @@
--- `fewest::with_images` meets its contract. The invariant: so many symbols are needed for the images before i. Assumes nothing.
+-- The invariant of `fewest::with_images`: so many symbols are needed for the images before i.
 use mathlib.Core.Bool.{Bool}
 use Prim.Native.Nat.{ℕ, ◌-◌, ◌≤◌, ◌<◌}
 use lib.ListN.{get_or}

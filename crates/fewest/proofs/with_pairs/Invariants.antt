@@ -1,4 +1,4 @@
--- `fewest::with_pairs` meets its contract. The invariant of both loops: what is needed with the sums so far still is. Assumes nothing.
+-- The invariant of both loops of `fewest::with_pairs`: what is needed with the sums so far still is.
 use Prim.Native.Nat.{◌-◌, ◌≤◌}
 use Rattle.bits.specs.Numerals.{numeral, numerals}
 use Rattle.fewest.specs.InnerFewest.{MeetsEachSum, StillNeeded}

@@ -8,6 +8,5 @@ use Rattle.lines.proofs.push_refusal.Goals as goal
 pub returns : goal.returns
 unfolding refusal_line
 returns c =
-    let told = c in
-    extended_as 53 _ (omega arith) (ap₂ refusal_line told.number-number.ensures told.place-place.ensures)
+    extended_as 53 _ (omega arith) (ap₂ refusal_line c.number-number.ensures c.place-place.ensures)
     (extended_twice (extended_twice c.push_labelled.ensures c.push_labelled-2.ensures) c.push.ensures)

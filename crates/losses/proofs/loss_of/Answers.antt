@@ -26,15 +26,14 @@ origin_of-origin-requires c = (c.requires.0, c.requires.1)
 
 pub returns : goal.returns
 returns c =
-    let start = c in
-    let args = start.args in
+    let args = c.args in
     let symbols = c.symbols-symbols.ensures in record {
       symbols = symbols;
       survivors = λ s.
           ap (λ (set : ℕ). has set s) (c.sum-survivors.ensures ∙ ap (λ (all : ℕ). bit_xor all (numeral args.gone)) (c.below.ensures ∙ ap below symbols))
-          ∙ rest_as_set args.layout args.disks.now (numeral args.gone) start.requires.2 s;
+          ∙ rest_as_set args.layout args.disks.now (numeral args.gone) c.requires.2 s;
       wanted = λ s.
           c.wanted_symbols-wanted.ensures s
-          ∙ ap (λ (gone : Bool). cond (eqb (length args.list.now) 0) gone (listed args.list.now s)) (start.requires.2 s);
+          ∙ ap (λ (gone : Bool). cond (eqb (length args.list.now) 0) gone (listed args.list.now s)) (c.requires.2 s);
       origin = c.origin_of-origin.ensures;
     }

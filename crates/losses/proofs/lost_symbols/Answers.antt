@@ -26,15 +26,14 @@ strip_of-requires c =
 pub loop-i-preserved : goal.loop-i-preserved
 loop-i-preserved c =
     let next_below : c.byte_at.result < c.args.layout.disks = subst (λ (disk : ℕ). disk < c.args.layout.disks) (sym c.byte_at.ensures.0) (c.requires.1 c.loop-i.i c.loop-i-test.true) in
-    let start = c in
-    let args = start.args in
+    let args = c.args in
     let loop = c.loop-i in
     let strip = c.strip_of in
     let disk = c.byte_at.ensures.0 in
     let strip_is : (s : ℕ) → has (numeral strip.result) s ≡ (ltb s (symbols_of args.layout) && eqb (disk_of args.layout s) (get_or args.disks.now loop.i 0)) =
     λ s.
     strip.ensures.strip s
-    ∙ strip_inside args.layout start.requires.0.height_from c.byte_at.result (next_below) s
+    ∙ strip_inside args.layout c.requires.0.height_from c.byte_at.result (next_below) s
     ∙ ap (λ (d : ℕ). ltb s (symbols_of args.layout) && eqb (disk_of args.layout s) d) disk in (
       omega arith,
       strip_joins args.layout args.disks.now loop.i c.loop-i-test.true (numeral loop.gone) (numeral strip.result) loop.invariant.1 strip_is c.union-gone.ensures,

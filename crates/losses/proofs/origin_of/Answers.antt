@@ -10,8 +10,7 @@ returns-then-edition-eq3 c = simp (eq-eqb _ 3 c.if-edition-eq3.true)
 
 pub first_symbol-requires : goal.first_symbol-requires
 first_symbol-requires c =
-    let start = c in
-    (omega (arith, start.requires.1, c.byte_at.ensures.0), omega (arith, start.requires.0.disks_to), omega (arith, start.requires.0.height_to))
+    (omega (arith, c.requires.1, c.byte_at.ensures.0), omega (arith, c.requires.0.disks_to), omega (arith, c.requires.0.height_to))
 
 pub returns : goal.returns
 returns c =

@@ -10,21 +10,19 @@ loop-i-init c = (omega arith, refl, refl)
 
 pub loop-i-preserved : goal.loop-i-preserved
 loop-i-preserved c =
-    let start = c in
-    let args = start.args in
+    let args = c.args in
     let loop = c.loop-i in (
       omega arith,
       simp length-set (omega arith),
-      summed_more args.target.now args.first.now _ start.requires.1
-          (first_parts (length args.target.now) args.count args.a.now args.b.now args.c.now args.d.now args.e.now start.requires.2 start.requires.3 start.requires.4 start.requires.5 start.requires.6)
+      summed_more args.target.now args.first.now _ c.requires.1
+          (first_parts (length args.target.now) args.count args.a.now args.b.now args.c.now args.d.now args.e.now c.requires.2 c.requires.3 c.requires.4 c.requires.5 c.requires.6)
           loop.target loop.i _ c.sum.result (omega arith) loop.invariant.2 refl c.sum.ensures,
     )
 
 pub returns : goal.returns
 returns c =
-    let start = c in
-    let args = start.args in
+    let args = c.args in
     let loop = c.loop-i in
-    summed_all args.target.now args.first.now _ start.requires.1
-    (first_parts (length args.target.now) args.count args.a.now args.b.now args.c.now args.d.now args.e.now start.requires.2 start.requires.3 start.requires.4 start.requires.5 start.requires.6)
+    summed_all args.target.now args.first.now _ c.requires.1
+    (first_parts (length args.target.now) args.count args.a.now args.b.now args.c.now args.d.now args.e.now c.requires.2 c.requires.3 c.requires.4 c.requires.5 c.requires.6)
     loop.target loop.i (omega arith) loop.invariant.2

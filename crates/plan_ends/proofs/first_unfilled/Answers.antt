@@ -9,14 +9,14 @@ use Rattle.plan_ends.proofs.first_unfilled.Goals as goal
 
 pub returns-then-first-symbols : goal.returns-then-first-symbols
 returns-then-first-symbols c =
-    let found = let start = c in let wanted = numeral start.args.wanted in lowest_unknown start.args.symbols wanted (numeral start.args.known) start.requires (c.first_difference-first.ensures.lowest ∙ ap (λ (both : ℕ). first_difference both wanted) c.common.ensures) in
+    let found = let wanted = numeral c.args.wanted in lowest_unknown c.args.symbols wanted (numeral c.args.known) c.requires (c.first_difference-first.ensures.lowest ∙ ap (λ (both : ℕ). first_difference both wanted) c.common.ensures) in
     let first = c.first_difference-first.result in
     let symbols = c.args.symbols in
     sym (ap (λ (here : Bool). cond here first symbols) (lt-ltb first symbols c.if-first-symbols.true)) ∙ found
 
 pub returns : goal.returns
 returns c =
-    let found = let start = c in let wanted = numeral start.args.wanted in lowest_unknown start.args.symbols wanted (numeral start.args.known) start.requires (c.first_difference-first.ensures.lowest ∙ ap (λ (both : ℕ). first_difference both wanted) c.common.ensures) in
+    let found = let wanted = numeral c.args.wanted in lowest_unknown c.args.symbols wanted (numeral c.args.known) c.requires (c.first_difference-first.ensures.lowest ∙ ap (λ (both : ℕ). first_difference both wanted) c.common.ensures) in
     let first = c.first_difference-first.result in
     let symbols = c.args.symbols in
     sym (ap (λ (here : Bool). cond here first symbols) (le-ltb first symbols c.if-first-symbols.false)) ∙ found

@@ -22,33 +22,27 @@ first_wrong-wrong-requires c = c.requires.0
 -- What a search finds does not lie before the origin
 pub overflow_sub-unfilled_at : goal.overflow_sub-unfilled_at
 overflow_sub-unfilled_at c =
-    let found = c in
-    let start = found in
-    let loss = start.args.loss in
-    subst (λ (s : ℕ). loss.origin ≤ s) (sym found.first_unfilled-unfilled.ensures)
-    (lowest_from_origin loss.symbols loss.origin (has (numeral loss.wanted)) _ start.requires.1.wanted_from start.requires.1.origin_to)
+    let loss = c.args.loss in
+    subst (λ (s : ℕ). loss.origin ≤ s) (sym c.first_unfilled-unfilled.ensures)
+    (lowest_from_origin loss.symbols loss.origin (has (numeral loss.wanted)) _ c.requires.1.wanted_from c.requires.1.origin_to)
 
 pub overflow_sub-wrong_row : goal.overflow_sub-wrong_row
 overflow_sub-wrong_row c =
-    let found = c in
-    let start = found in
-    let loss = start.args.loss in
-    subst (λ (s : ℕ). loss.origin ≤ s) (sym found.first_wrong-wrong.ensures.symbol)
-    (lowest_from_origin loss.symbols loss.origin (has (numeral loss.wanted)) _ start.requires.1.wanted_from start.requires.1.origin_to)
+    let loss = c.args.loss in
+    subst (λ (s : ℕ). loss.origin ≤ s) (sym c.first_wrong-wrong.ensures.symbol)
+    (lowest_from_origin loss.symbols loss.origin (has (numeral loss.wanted)) _ c.requires.1.wanted_from c.requires.1.origin_to)
 
 pub returns : goal.returns
 returns c =
-    let found = c in
-    let start = found in
-    let args = start.args in
+    let args = c.args in
     let loss = args.loss in
-    let ran = found.run_on_rows-end in
-    let unfilled = found.first_unfilled-unfilled in
-    let wrong = found.first_wrong-wrong in
+    let ran = c.run_on_rows-end in
+    let unfilled = c.first_unfilled-unfilled in
+    let wrong = c.first_wrong-wrong in
     let reads = c.count-reads in
     let tests : outcome c.or_if-3.result ≡ and_then (outcome ran.result.verdict) (end_order loss.symbols loss.origin unfilled.result wrong.result.symbol wrong.result.data_symbol args.stated reads.result) =
     rw (c.or_if-3.ensures, c.or_if-2.ensures, c.or_if.ensures) in
     tests
-    ∙ judged (numerals args.code_rows) loss.symbols (numeral loss.survivors) (numeral loss.wanted) loss.origin start.requires.1 start.requires.0
+    ∙ judged (numerals args.code_rows) loss.symbols (numeral loss.survivors) (numeral loss.wanted) loss.origin c.requires.1 c.requires.0
     (sheet_steps args.step_count args.steps.now) (reached ran.result) ran.ensures args.stated
     unfilled.ensures wrong.ensures.symbol wrong.ensures.off (reads.ensures ∙ ap count c.common.ensures)

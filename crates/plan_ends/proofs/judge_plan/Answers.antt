@@ -15,29 +15,27 @@ use Rattle.plan_ends.proofs.judge_plan.Goals as goal
 
 pub loss_of-requires : goal.loss_of-requires
 loss_of-requires c =
-    let start = c in
-    let pre = start.requires.0 in
-    let layout = start.args.code.layout in (
-      layout_within (linear start.args.code) pre.within,
-      first_disk_below layout pre.within.height_from start.args.disks.now start.args.head.edition pre.disks_good,
+    let pre = c.requires.0 in
+    let layout = c.args.code.layout in (
+      layout_within (linear c.args.code) pre.within,
+      first_disk_below layout pre.within.height_from c.args.disks.now c.args.head.edition pre.disks_good,
       pre.gone_is,
-      λ i h. omega (arith, lost_below layout start.args.disks.now (get_or start.args.list.now i 0) (pre.list_good.each_allowed i h), pre.within.symbols_to),
+      λ i h. omega (arith, lost_below layout c.args.disks.now (get_or c.args.list.now i 0) (pre.list_good.each_allowed i h), pre.within.symbols_to),
     )
 
 pub judge-requires : goal.judge-requires
 judge-requires c =
-    let start = c in
-    let pre = start.requires.0 in
-    let layout = start.args.code.layout in
-    let disks = start.args.disks.now in
-    let list = start.args.list.now in
-    let edition = start.args.head.edition in
+    let pre = c.requires.0 in
+    let layout = c.args.code.layout in
+    let disks = c.args.disks.now in
+    let list = c.args.list.now in
+    let edition = c.args.head.edition in
     let loss = c.loss_of in
     let sets = plan_sets layout pre.within.height_from disks edition pre.disks_good list pre.list_good in (
       subst (λ (n : ℕ). n ≤ set_width) (sym loss.ensures.symbols) (omega (arith, pre.within.symbols_to)),
       subst (λ (n : ℕ). SetsWithin n (has (numeral loss.result.survivors)) (has (numeral loss.result.wanted)) loss.result.origin) (sym loss.ensures.symbols)
           (sets_by_code layout disks list edition sets (numeral loss.result.survivors) (numeral loss.result.wanted) loss.ensures.survivors loss.ensures.wanted loss.ensures.origin),
-      start.requires.1,
+      c.requires.1,
     )
 
 pub returns : goal.returns

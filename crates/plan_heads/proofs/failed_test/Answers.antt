@@ -12,14 +12,13 @@ use Rattle.plan_heads.proofs.failed_test.Goals as goal
 
 pub returns-then-same : goal.returns-then-same
 returns-then-same c =
-    let start = c in
-    let args = start.args in
+    let args = c.args in
     let most = most_failed args.edition args.disks in
     let lists = disk_faults args.disks most args.failed.now in
     let last = (not args.same gets 16 at 0) ∷ [] in
     sym
     (none_holds_means_fine (lists ++ last)
-    (none_holds_join lists last (no_fault_if_good_disks args.disks most args.failed.now (start.requires.1 c.if-same.true)) (ap not c.if-same.true, tt)))
+    (none_holds_join lists last (no_fault_if_good_disks args.disks most args.failed.now (c.requires.1 c.if-same.true)) (ap not c.if-same.true, tt)))
 
 pub disks_test-requires : goal.disks_test-requires
 disks_test-requires c = c.requires.0

@@ -26,33 +26,31 @@ slice_bounds-write_steps-count c = omega (arith, c.head_length-start.ensures ∙
 
 pub write_steps-steps-requires : goal.write_steps-steps-requires
 write_steps-steps-requires c =
-    let start = c in
-    let a = start.args in
-    steps_writable a.layout (has (numeral a.wanted)) (numerals a.subsets) c.symbols-symbols.ensures a.buffer.now start.requires (c.head_length-start.ensures ∙ ap head_length c.sections_for-sections.ensures.sections)
+    let a = c.args in
+    steps_writable a.layout (has (numeral a.wanted)) (numerals a.subsets) c.symbols-symbols.ensures a.buffer.now c.requires (c.head_length-start.ensures ∙ ap head_length c.sections_for-sections.ensures.sections)
 
 pub write_head-requires : goal.write_head-requires
 write_head-requires c =
-    let start = c in
-    let a = start.args in
-    let within = start.requires.layout_within in
+    let a = c.args in
+    let within = c.requires.layout_within in
     let symbols = c.symbols-symbols.ensures in
     let reads =
     few_reads a.layout (has (numeral a.wanted)) (numerals a.subsets) symbols c.write_steps-steps.ensures.answer c.count-reads.ensures (omega (arith, symbols)) in
     record {
-      edition_fits = start.requires.edition_fits;
+      edition_fits = c.requires.edition_fits;
       numbers_to =
           record {
             count_to = omega (arith, c.first_count.ensures, first_count_small a.edition);
-            edition_to = edition_small start.requires.edition_fits;
+            edition_to = edition_small c.requires.edition_fits;
             disks_to = omega arith;
             height_to = omega arith;
-            data_to = start.requires.data_to;
+            data_to = c.requires.data_to;
             reads_to = omega (arith, reads);
           };
-      failed_to = start.requires.failed_to;
-      wanted_to = start.requires.list_to;
-      steps_to = omega (arith, count_told c.args.layout (has (numeral c.args.wanted)) (numerals c.args.subsets) c.symbols-symbols.ensures c.write_steps-steps.ensures.answer, start.requires.steps_fit);
-      room = omega (arith, start.requires.room, c.write_steps-steps.auto.buffer);
+      failed_to = c.requires.failed_to;
+      wanted_to = c.requires.list_to;
+      steps_to = omega (arith, count_told c.args.layout (has (numeral c.args.wanted)) (numerals c.args.subsets) c.symbols-symbols.ensures c.write_steps-steps.ensures.answer, c.requires.steps_fit);
+      room = omega (arith, c.requires.room, c.write_steps-steps.auto.buffer);
     }
 
 pub sheet_length-requires : goal.sheet_length-requires
@@ -60,8 +58,7 @@ sheet_length-requires c = (c.sections_for-sections.ensures.small, omega (arith, 
 
 pub returns : goal.returns
 returns c =
-    let start = c in
-    let a = start.args in
+    let a = c.args in
     let wanted = has (numeral a.wanted) in
     let subsets = numerals a.subsets in
     let symbols = c.symbols-symbols.ensures in
@@ -73,9 +70,9 @@ returns c =
     let head = head_for a.edition a.layout a.data_symbols reads in
     record {
       reads = reads_told a.layout wanted subsets symbols steps.ensures.answer c.count-reads.ensures;
-      length = length_stored head a.failed.now a.list.now start.requires.edition_fits plan place number
+      length = length_stored head a.failed.now a.list.now c.requires.edition_fits plan place number
           (c.sheet_length.ensures ∙ ap (λ (sections : Sections). sheet_length sections steps.result.count) c.sections_for-sections.ensures.sections);
-      buffer = sheet_stored head a.failed.now a.list.now start.requires.edition_fits plan place number a.buffer.now (omega (arith, start.requires.room))
+      buffer = sheet_stored head a.failed.now a.list.now c.requires.edition_fits plan place number a.buffer.now (omega (arith, c.requires.room))
           (part_stored a.buffer.now _ (omega (arith, place, c.requires.room)) steps.ensures.buffer (ap (λ (n : ℕ). subset_plan n wanted subsets) symbols))
           (first_number a.edition a.layout a.data_symbols reads a.failed.now a.list.now steps.result.count _ c.first_count.ensures c.write_head.ensures);
     }

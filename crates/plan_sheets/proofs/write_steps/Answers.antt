@@ -11,11 +11,10 @@ use Rattle.plan_sheets.proofs.write_steps.Goals.{then-has, else-has}
 
 pub loop-target-init : goal.loop-target-init
 loop-target-init c =
-    let start = c in
-    let a = start.args in (
+    let a = c.args in (
       omega arith,
       subst (λ (sources : ℕ). PlanRemaining (numerals a.subsets) a.symbols (has (numeral a.wanted)) a.buffer.now a.buffer.now sources 0 0) (sym c.empty-sources.ensures)
-          (plan_all (numerals a.subsets) a.symbols (has (numeral a.wanted)) a.buffer.now start.requires.fits),
+          (plan_all (numerals a.subsets) a.symbols (has (numeral a.wanted)) a.buffer.now c.requires.fits),
     )
 
 pub has-requires : goal.has-requires
@@ -29,13 +28,12 @@ bounds-subsets-target c = omega (arith, c.requires.symbols_to, c.loop-target-tes
 
 pub write_target-number-requires : goal.write_target-number-requires
 write_target-number-requires c =
-    let start = c in
     let taken = c.loop-target-test.true in
     let is_wanted = sym c.has.ensures ∙ c.if-has.true in
     let reached = c.loop-target in (
-      omega (arith, start.requires.symbols_to, taken),
-      start.requires.symbols_to,
-      plan_fits (has (numeral start.args.wanted)) reached.invariant.1 taken is_wanted (get_or_numerals start.args.subsets reached.target),
+      omega (arith, c.requires.symbols_to, taken),
+      c.requires.symbols_to,
+      plan_fits (has (numeral c.args.wanted)) reached.invariant.1 taken is_wanted (get_or_numerals c.args.subsets reached.target),
     )
 
 pub overflow_add-target : goal.overflow_add-target
@@ -46,14 +44,13 @@ loop-target-smaller c = omega (arith, c.loop-target-test.true)
 
 pub loop-target-preserved : goal.loop-target-preserved
 loop-target-preserved c =
-    let start = c in
     let loop = c.loop-target in
     let taken = c.loop-target-test.true in
-    let wanted = has (numeral start.args.wanted) in
+    let wanted = has (numeral c.args.wanted) in
     elim c.if-has.branch [
       | then-has w ↦ (
         omega (arith, taken),
-        plan_next wanted loop.invariant.1 taken (sym c.has.ensures ∙ w.if-has.true) (get_or_numerals start.args.subsets loop.target) (start.requires.subsets_below loop.target)
+        plan_next wanted loop.invariant.1 taken (sym c.has.ensures ∙ w.if-has.true) (get_or_numerals c.args.subsets loop.target) (c.requires.subsets_below loop.target)
             (w.buffer-is ∙ w.write_target-number.ensures.buffer) (ap numeral w.sources-is ∙ w.union-sources.ensures) (w.number-is ∙ w.write_target-number.ensures.answer),
       )
       | else-has w ↦ (

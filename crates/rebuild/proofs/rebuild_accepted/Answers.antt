@@ -16,8 +16,7 @@ returns-in_default c =
 
 pub run_on_stripe-requires : goal.run_on_stripe-requires
 run_on_stripe-requires c =
-    let start = c in
-    (each_fits start.args.symbols start.args.size (length start.args.stripe.now) _ start.requires.0 (sym c.stripe_test-verdict.ensures ∙ ap outcome c.in-Fine.is), start.requires.1)
+    (each_fits c.args.symbols c.args.size (length c.args.stripe.now) _ c.requires.0 (sym c.stripe_test-verdict.ensures ∙ ap outcome c.in-Fine.is), c.requires.1)
 
 pub returns : goal.returns
 returns c =

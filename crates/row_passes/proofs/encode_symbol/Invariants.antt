@@ -1,4 +1,4 @@
--- `row_passes::encode_symbol` meets its contract. The invariant: the target and what the row still takes make the encoded symbol. Assumes nothing.
+-- The invariant of `row_passes::encode_symbol`: the target and what the row still takes make the encoded symbol.
 use Prim.Native.Nat.{◌-◌}
 use Rattle.bits.specs.Numerals.{numeral}
 use Rattle.row_passes.proofs.PassLaws.{SummedTo}

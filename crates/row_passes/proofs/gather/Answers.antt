@@ -1,3 +1,4 @@
+-- `row_passes::gather` meets its contract. Assumes nothing.
 use Prim.Native.Nat.{◌+◌, ◌-◌}
 use native.Mathlib.Omega.{arith}
 use Rattle.bits.specs.BitSets.{has}
@@ -8,9 +9,8 @@ use Rattle.row_passes.proofs.gather.Goals as goal
 
 pub loop-next-init : goal.loop-next-init
 loop-next-init c =
-    let start = c in
-    let args = start.args in
-    gathers_none (numeral args.row) args.data_symbols args.first (args.first + 1) c.next_symbol-next.result _ start.requires.0 c.no_sources-sources.ensures
+    let args = c.args in
+    gathers_none (numeral args.row) args.data_symbols args.first (args.first + 1) c.next_symbol-next.result _ c.requires.0 c.no_sources-sources.ensures
     (next_found (numeral args.row) args.data_symbols (args.first + 1) _ (omega arith) c.next_symbol-next.ensures)
 
 pub returns-then-sources-eq-MOST_SOURCES : goal.returns-then-sources-eq-MOST_SOURCES

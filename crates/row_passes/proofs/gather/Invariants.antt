@@ -1,4 +1,4 @@
--- `row_passes::gather` meets its contract. The invariant: the row's data symbols are those gathered and those from the next on. Assumes nothing.
+-- The invariant of `row_passes::gather`: the row's data symbols are those gathered and those from the next on.
 use Prim.Native.Nat.{◌+◌, ◌-◌}
 use Rattle.bits.specs.Numerals.{numeral}
 use Rattle.row_passes.specs.InnerPasses.{Gathers}

@@ -6,12 +6,10 @@ use Rattle.row_passes.proofs.next_symbol.Goals as goal
 
 pub returns-then-next-data_symbols : goal.returns-then-next-data_symbols
 returns-then-next-data_symbols c =
-    let start = c in
-    let args = start.args in
-    next_within (numeral args.row) args.data_symbols set_width args.from _ start.requires.0 start.requires.1 c.lowest_from-next.ensures c.if-next-data_symbols.true
+    let args = c.args in
+    next_within (numeral args.row) args.data_symbols set_width args.from _ c.requires.0 c.requires.1 c.lowest_from-next.ensures c.if-next-data_symbols.true
 
 pub returns : goal.returns
 returns c =
-    let start = c in
-    let args = start.args in
-    next_behind (numeral args.row) args.data_symbols set_width args.from _ start.requires.0 start.requires.1 c.lowest_from-next.ensures (omega arith)
+    let args = c.args in
+    next_behind (numeral args.row) args.data_symbols set_width args.from _ c.requires.0 c.requires.1 c.lowest_from-next.ensures (omega arith)

@@ -29,10 +29,9 @@ overflow_add-buffer-in-loop-i c = omega (arith, c.requires.0, c.requires.1, c.lo
 
 pub bounds-buffer-at-in-loop-i : goal.bounds-buffer-at-in-loop-i
 bounds-buffer-at-in-loop-i c =
-    let start = c in
     let loop = c.loop-i in
-    let room = start.requires.2 in
-    omega (arith, length_with_entries start.args.list.now start.args.at start.args.buffer.now room loop.invariant.0 loop.invariant.1, room, c.loop-i-test.true)
+    let room = c.requires.2 in
+    omega (arith, length_with_entries c.args.list.now c.args.at c.args.buffer.now room loop.invariant.0 loop.invariant.1, room, c.loop-i-test.true)
 
 pub overflow_add-i : goal.overflow_add-i
 overflow_add-i c = omega (arith, c.requires.0, c.loop-i-test.true)
@@ -42,17 +41,14 @@ loop-i-smaller c = omega (arith, c.loop-i-test.true)
 
 pub loop-i-preserved : goal.loop-i-preserved
 loop-i-preserved c =
-    let start = c in
     let taken = c.loop-i-test.true in
-    (omega (arith, taken), with_entries_next start.args.list.now start.args.at start.args.buffer.now start.requires.2 taken c.loop-i.invariant.1)
+    (omega (arith, taken), with_entries_next c.args.list.now c.args.at c.args.buffer.now c.requires.2 taken c.loop-i.invariant.1)
 
 pub shape_of-buffer : goal.shape_of-buffer
 shape_of-buffer c =
-    let start = c in
-    length_with_entries start.args.list.now start.args.at start.args.buffer.now start.requires.2 c.loop-i.invariant.0 c.loop-i.invariant.1
+    length_with_entries c.args.list.now c.args.at c.args.buffer.now c.requires.2 c.loop-i.invariant.0 c.loop-i.invariant.1
 
 pub returns : goal.returns
 returns c =
-    let start = c in
-    let all : c.loop-i.i ≡ length start.args.list.now = omega (arith, c.loop-i-test.false, c.loop-i.invariant.0) in
-    list_stored start.args.list.now start.args.at start.args.buffer.now start.requires.2 c.loop-i.invariant.1 all
+    let all : c.loop-i.i ≡ length c.args.list.now = omega (arith, c.loop-i-test.false, c.loop-i.invariant.0) in
+    list_stored c.args.list.now c.args.at c.args.buffer.now c.requires.2 c.loop-i.invariant.1 all

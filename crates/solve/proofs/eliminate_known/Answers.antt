@@ -21,12 +21,11 @@ eliminate-eliminated-requires c = (
 
 pub returns : goal.returns
 returns c =
-    let start = c in
-    let args = start.args in
+    let args = c.args in
     let units = c.unit_patterns-units.ensures in
     let eliminated = c.eliminate-eliminated.ensures in
     let known =
     ap (take args.symbols) c.surviving_rows-surviving.ensures
     ∙ take_known args.symbols (numerals args.rows) (has (numeral args.known))
-    (omega (arith, length_numerals args.rows, array_length args.rows _ start.well_formed.0)) in
+    (omega (arith, length_numerals args.rows, array_length args.rows _ c.well_formed.0)) in
     record { surviving = known; pivots = eliminated.1 ∙ ap₂ pivots units known; remaining = eliminated.0 ∙ ap₂ remaining units known }

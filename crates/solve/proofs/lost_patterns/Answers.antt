@@ -16,12 +16,11 @@ eliminate-eliminated-requires c = (omega arith, omega arith, c.requires.2)
 
 pub returns : goal.returns
 returns c =
-    let start = c in
-    let args = start.args in
+    let args = c.args in
     let wanted =
     ap (take args.symbols) c.surviving_rows-wanted_rows.ensures
     ∙ take_known args.symbols (numerals args.rows) (has (numeral args.wanted))
-    (omega (arith, length_numerals args.rows, array_length args.rows _ start.well_formed.1.1.0)) in
+    (omega (arith, length_numerals args.rows, array_length args.rows _ c.well_formed.1.1.0)) in
     let taken = c.eliminate-eliminated.ensures.1 ∙ ap (pivots (numerals args.remaining)) wanted in
     let gathered = c.nonempty_sets.ensures in
     record { count = gathered.count ∙ ap (λ (l : List ℕ). length (nonempty l)) taken; sets = gathered.sets ∙ ap (λ (l : List ℕ). padded (nonempty l)) taken }

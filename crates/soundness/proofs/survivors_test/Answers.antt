@@ -22,10 +22,9 @@ returns-in_default c =
 
 pub symbols-symbols-requires : goal.symbols-symbols-requires
 symbols-symbols-requires c =
-    let start = c in
-    let a = start.args in
+    let a = c.args in
     let read_fine = (asked_fine a.reading.code.layout a.disks.now (outcome a.reading.verdict) (sym c.asked_test-asked.ensures ∙ ap outcome c.in-Fine.is)).0 in
-    let within = start.requires read_fine in
+    let within = c.requires read_fine in
     (omega (arith, within.disks_to), omega (arith, within.height_to))
 
 pub returns : goal.returns

@@ -19,20 +19,18 @@ lowest_failing-lowest-requires c =
 
 pub returns-then-lowest-size : goal.returns-then-lowest-size
 returns-then-lowest-size c =
-    let start = c in
-    let args = start.args in (
-      unsound_there (linear args.code) start.requires.0 args.disks.now args.size args.stripe.now
-          (λ i. search rules) start.requires.3
+    let args = c.args in (
+      unsound_there (linear args.code) c.requires.0 args.disks.now args.size args.stripe.now
+          (λ i. search rules) c.requires.3
           c.equations_for-list.ensures.equations c.symbols-symbols.ensures c.lowest_failing-lowest.ensures c.if-lowest-size.true,
       refl,
     )
 
 pub returns : goal.returns
 returns c =
-    let start = c in
-    let args = start.args in (
-      sound_if_none_fails (linear args.code) start.requires.0 args.disks.now args.size args.stripe.now
-          (λ i. search rules) start.requires.3
+    let args = c.args in (
+      sound_if_none_fails (linear args.code) c.requires.0 args.disks.now args.size args.stripe.now
+          (λ i. search rules) c.requires.3
           c.equations_for-list.ensures.equations c.symbols-symbols.ensures c.lowest_failing-lowest.ensures (omega (arith, c.if-lowest-size.false)),
       refl,
     )

@@ -11,53 +11,45 @@ use Rattle.step_readings.proofs.judge_step.Goals as goal
 
 pub returns-then-malformed : goal.returns-then-malformed
 returns-then-malformed c =
-    let start = c in
     sym
-    (reads_malformed start.args.symbols (has (numeral start.args.wanted)) (has (numeral start.args.known)) start.args.number start.args.sheet_step
+    (reads_malformed c.args.symbols (has (numeral c.args.wanted)) (has (numeral c.args.known)) c.args.number c.args.sheet_step
     (sym c.malformed.ensures ∙ c.if-malformed.true))
 
 pub has-requires : goal.has-requires
 has-requires c =
-    let start = c in
-    omega (arith, formed_step start.args.symbols start.args.sheet_step (sym c.malformed.ensures ∙ c.if-malformed.false))
+    omega (arith, formed_step c.args.symbols c.args.sheet_step (sym c.malformed.ensures ∙ c.if-malformed.false))
 
 pub returns-then-not-has : goal.returns-then-not-has
 returns-then-not-has c =
-    let start = c in
     sym
-    (reads_not_wanted start.args.symbols (has (numeral start.args.wanted)) (has (numeral start.args.known)) start.args.number start.args.sheet_step
+    (reads_not_wanted c.args.symbols (has (numeral c.args.wanted)) (has (numeral c.args.known)) c.args.number c.args.sheet_step
     (sym c.malformed.ensures ∙ c.if-malformed.false) (sym c.has.ensures ∙ c.if-not-has.true))
 
 pub returns-then-onto_itself : goal.returns-then-onto_itself
 returns-then-onto_itself c =
-    let told = c in
-    let args = told.args in
+    let args = c.args in
     sym
     (reads_onto_itself args.symbols (has (numeral args.wanted)) (has (numeral args.known)) args.number args.sheet_step
-    (sym c.malformed.ensures ∙ c.if-malformed.false) (sym c.has.ensures ∙ c.if-not-has.false) (sym told.onto_itself.ensures ∙ c.if-onto_itself.true))
+    (sym c.malformed.ensures ∙ c.if-malformed.false) (sym c.has.ensures ∙ c.if-not-has.false) (sym c.onto_itself.ensures ∙ c.if-onto_itself.true))
 
 pub is_ready-requires : goal.is_ready-requires
 is_ready-requires c =
-    let told = c in
-    let start = told in
     subst (NamesBelow set_width) (sym c.decoded-step.ensures)
-    (step_of_names_below start.args.symbols set_width start.args.sheet_step start.requires (sym c.malformed.ensures ∙ c.if-malformed.false))
+    (step_of_names_below c.args.symbols set_width c.args.sheet_step c.requires (sym c.malformed.ensures ∙ c.if-malformed.false))
 
 pub returns-then-not-is_ready : goal.returns-then-not-is_ready
 returns-then-not-is_ready c =
-    let told = c in
-    let args = told.args in
+    let args = c.args in
     sym
     (reads_unfilled args.symbols (has (numeral args.wanted)) (has (numeral args.known)) args.number args.sheet_step
-    (sym c.malformed.ensures ∙ c.if-malformed.false) (sym c.has.ensures ∙ c.if-not-has.false) (sym told.onto_itself.ensures ∙ c.if-onto_itself.false)
+    (sym c.malformed.ensures ∙ c.if-malformed.false) (sym c.has.ensures ∙ c.if-not-has.false) (sym c.onto_itself.ensures ∙ c.if-onto_itself.false)
     (ap (λ (step : Step). ready step (has (numeral args.known))) (sym c.decoded-step.ensures) ∙ sym c.is_ready.ensures ∙ c.if-not-is_ready.true))
 
 pub returns : goal.returns
 returns c =
-    let told = c in
-    let args = told.args in
+    let args = c.args in
     ap Gives c.decoded-step.ensures
     ∙ sym
     (reads_step args.symbols (has (numeral args.wanted)) (has (numeral args.known)) args.number args.sheet_step
-    (sym c.malformed.ensures ∙ c.if-malformed.false) (sym c.has.ensures ∙ c.if-not-has.false) (sym told.onto_itself.ensures ∙ c.if-onto_itself.false)
+    (sym c.malformed.ensures ∙ c.if-malformed.false) (sym c.has.ensures ∙ c.if-not-has.false) (sym c.onto_itself.ensures ∙ c.if-onto_itself.false)
     (ap (λ (step : Step). ready step (has (numeral args.known))) (sym c.decoded-step.ensures) ∙ sym c.is_ready.ensures ∙ c.if-not-is_ready.false))

@@ -1,3 +1,4 @@
+-- `steps::run_on_rows` meets its contract. Assumes nothing.
 use mathlib.Core.Path.{◌≡◌, sym, ap, ◌∙◌, subst}
 use mathlib.Core.Bool.{Bool}
 use Prim.Native.Nat.{ℕ, ◌≤◌, ◌<◌}
@@ -70,16 +71,15 @@ with-sources-requires c = source_in_array _ _ _ _ c.requires.0 (sym c.read_step-
 
 pub loop-number-preserved : goal.loop-number-preserved
 loop-number-preserved c =
-    let start = c in
     let loop = c.loop-number in
     let target = c.target_of-target in
     let source = c.source_of-source in
     let value = c.value_of in
     let more = c.loop-number-test.true in
-    let reached = remaining_first start.args.count start.args.steps.now loop.invariant.1 more in (
+    let reached = remaining_first c.args.count c.args.steps.now loop.invariant.1 more in (
       omega arith,
       rw (numerals_set loop.rows target.result value.result)
-          (remaining_next reached (sym c.read_step-reading.ensures ∙ ap as_step c.in-Step.is) start.requires.0 target.ensures source.ensures
+          (remaining_next reached (sym c.read_step-reading.ensures ∙ ap as_step c.in-Step.is) c.requires.0 target.ensures source.ensures
           (rw (get_or_numerals loop.rows target.result, get_or_numerals loop.rows source.result) at value.ensures) c.with-known.ensures c.with-sources.ensures),
     )
 

@@ -1,5 +1,5 @@
--- `steps::run_on_rows` meets its contract. The invariant: the verdict, the run, the places filled and the places read of all steps are those of
--- the steps that remain, from the state that is reached. The measure is the number of steps that remain. Assumes nothing.
+-- The invariant of `steps::run_on_rows`: the verdict, the run, the places filled and the places read of all steps are those of the steps that remain,
+-- from the state that is reached. The measure is the number of steps that remain.
 use Prim.Native.Nat.{◌-◌, ◌≤◌}
 use Rattle.bits.specs.BitSets.{has}
 use Rattle.bits.specs.Numerals.{numeral, numerals}

@@ -8,21 +8,18 @@ use Rattle.stripes.proofs.do_pass.Goals as goal
 
 pub clear-requires : goal.clear-requires
 clear-requires c =
-    let start = c in
-    let fits = subst (StepSymbolsWithin start.args.size (length start.args.stripe.now)) c.in-Clear.is start.requires.0 in
-    (fits, start.requires.1, start.requires.2)
+    let fits = subst (StepSymbolsWithin c.args.size (length c.args.stripe.now)) c.in-Clear.is c.requires.0 in
+    (fits, c.requires.1, c.requires.2)
 
 pub copy-requires : goal.copy-requires
 copy-requires c =
-    let start = c in
-    let fits = subst (StepSymbolsWithin start.args.size (length start.args.stripe.now)) c.in-Copy.is start.requires.0 in
-    (fits.0, fits.1, start.requires.1, start.requires.2)
+    let fits = subst (StepSymbolsWithin c.args.size (length c.args.stripe.now)) c.in-Copy.is c.requires.0 in
+    (fits.0, fits.1, c.requires.1, c.requires.2)
 
 pub add-requires : goal.add-requires
 add-requires c =
-    let start = c in
-    let fits = subst (StepSymbolsWithin start.args.size (length start.args.stripe.now)) c.in-Add.is start.requires.0 in
-    (fits.0, fits.1, start.requires.1, start.requires.2)
+    let fits = subst (StepSymbolsWithin c.args.size (length c.args.stripe.now)) c.in-Add.is c.requires.0 in
+    (fits.0, fits.1, c.requires.1, c.requires.2)
 
 pub returns-in-Clear : goal.returns-in-Clear
 returns-in-Clear c =

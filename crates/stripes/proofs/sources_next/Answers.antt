@@ -13,9 +13,8 @@ use Rattle.stripes.proofs.sources_next.Goals as goal
 
 pub loop-number-init : goal.loop-number-init
 loop-number-init c =
-    let start = c in
     let none = ap (λ (s : Sources). s.count) c.no_sources-sources.ensures in
-    (omega (arith, none), omega (arith, none), taken_none start.args.steps.now start.args.count start.args.target start.args.from _ start.requires.0 (ap listed c.no_sources-sources.ensures))
+    (omega (arith, none), omega (arith, none), taken_none c.args.steps.now c.args.count c.args.target c.args.from _ c.requires.0 (ap listed c.no_sources-sources.ensures))
 
 pub returns-then-sources-eq-MOST_SOURCES : goal.returns-then-sources-eq-MOST_SOURCES
 returns-then-sources-eq-MOST_SOURCES c =

@@ -1,4 +1,4 @@
--- `swaps::lowering_equation` meets its contract. The invariant: none of the equations passed lowers the sum. Assumes nothing.
+-- The invariant of `swaps::lowering_equation`: none of the equations passed lowers the sum.
 use mathlib.Core.Path.{◌≡◌}
 use mathlib.Core.Bool.{Bool, false}
 use mathlib.Core.List.{List}

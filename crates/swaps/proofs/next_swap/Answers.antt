@@ -15,9 +15,8 @@ swap_among-late-requires c = (c.requires.0, omega (arith, c.requires.1, c.symbol
 pub returns-in_default : goal.returns-in_default
 returns-in_default c =
     let late = c.swap_among-late in
-    let start = c in
-    let terms = terms_of start.args.layout start.args.states start.args.equations start.args.wanted in
-    found_late terms (numerals start.args.sets) start.args.from _ late.result c.in_default.is late.ensures
+    let terms = terms_of c.args.layout c.args.states c.args.equations c.args.wanted in
+    found_late terms (numerals c.args.sets) c.args.from _ late.result c.in_default.is late.ensures
 
 pub swap_among-requires : goal.swap_among-requires
 swap_among-requires c =
@@ -27,9 +26,8 @@ swap_among-requires c =
 pub returns : goal.returns
 returns c =
     let late = c.swap_among-late in
-    let start = c in
-    let terms = terms_of start.args.layout start.args.states start.args.equations start.args.wanted in
-    found_early terms (numerals start.args.sets) start.args.from _
-    (λ target is_wanted. omega (arith, start.requires.0.wanted_below target is_wanted, c.symbols-end.ensures))
-    (subst (LoweringAmong terms (numerals start.args.sets) start.args.from _) c.in-Nothing.is late.ensures)
+    let terms = terms_of c.args.layout c.args.states c.args.equations c.args.wanted in
+    found_early terms (numerals c.args.sets) c.args.from _
+    (λ target is_wanted. omega (arith, c.requires.0.wanted_below target is_wanted, c.symbols-end.ensures))
+    (subst (LoweringAmong terms (numerals c.args.sets) c.args.from _) c.in-Nothing.is late.ensures)
     c.swap_among.result c.swap_among.ensures

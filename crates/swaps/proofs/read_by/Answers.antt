@@ -1,3 +1,4 @@
+-- `swaps::read_by` meets its contract. Assumes nothing.
 use mathlib.Core.Path.{◌≡◌, sym, ap, ◌∙◌}
 use Prim.Native.Nat.{ℕ, ◌+◌}
 use native.Mathlib.Omega.{arith}
@@ -16,10 +17,9 @@ loop-s-init c =
 
 pub loop-s-preserved : goal.loop-s-preserved
 loop-s-preserved c =
-    let start = c in
-    let sets = start.args.sets in
+    let sets = c.args.sets in
     let loop = c.loop-s in
-    let held : length (numerals sets) ≡ set_width = length_numerals sets ∙ array_length sets _ start.well_formed.0 in
+    let held : length (numerals sets) ≡ set_width = length_numerals sets ∙ array_length sets _ c.well_formed.0 in
     let later = read_by (drop (loop.s + 1) (numerals sets)) in (
       omega arith,
       ap (λ (n : ℕ). bit_or n later) (c.union-read.ensures ∙ ap (bit_or (numeral loop.read)) (get_or_numerals sets loop.s))
@@ -30,8 +30,7 @@ loop-s-preserved c =
 
 pub returns : goal.returns
 returns c =
-    let start = c in
-    let sets = start.args.sets in
+    let sets = c.args.sets in
     let loop = c.loop-s in
-    let held : length (numerals sets) ≡ set_width = length_numerals sets ∙ array_length sets _ start.well_formed.0 in
+    let held : length (numerals sets) ≡ set_width = length_numerals sets ∙ array_length sets _ c.well_formed.0 in
     sym (or_zero_r (numeral loop.read)) ∙ ap (bit_or (numeral loop.read)) (sym (read_behind (numerals sets) loop.s (omega (arith, held, c.loop-s-test.false)))) ∙ loop.invariant.1

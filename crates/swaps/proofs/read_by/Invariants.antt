@@ -1,4 +1,4 @@
--- `swaps::read_by` meets its contract. The invariant: what is read so far and by the sets to come is what all read. Assumes nothing.
+-- The invariant of `swaps::read_by`: what is read so far and by the sets to come is what all read.
 use mathlib.Core.Path.{◌≡◌}
 use Prim.Native.Nat.{◌-◌, ◌≤◌}
 use lib.Bits.{bit_or}

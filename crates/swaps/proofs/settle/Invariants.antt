@@ -1,4 +1,4 @@
--- `swaps::settle` meets its contract. The invariant: so many swaps have led from the start to these sets, and the cost is theirs. Assumes nothing.
+-- The invariant of `swaps::settle`: so many swaps have led from the start to these sets, and the cost is theirs.
 use mathlib.Core.Path.{◌≡◌}
 use Prim.Native.Nat.{◌-◌, ◌≤◌}
 use Rattle.bits.specs.Numerals.{numerals}

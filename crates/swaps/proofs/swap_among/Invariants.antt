@@ -1,4 +1,4 @@
--- `swaps::swap_among` meets its contract. The invariant: no swap of the symbols passed lowers the sum. Assumes nothing.
+-- The invariant of `swaps::swap_among`: no swap of the symbols passed lowers the sum.
 use mathlib.Core.Path.{◌≡◌}
 use mathlib.Core.Bool.{true, false}
 use Prim.Native.Nat.{ℕ, ◌-◌, ◌≤◌, ◌<◌}

@@ -17,24 +17,21 @@ loop-i-init c =
 
 pub sum-requires : goal.sum-requires
 sum-requires c =
-    let start = c in
     let loop = c.loop-i in
-    (start.requires.2, subst⁻¹ (λ (n : ℕ). EachWithin start.args.size n (listed start.args.sources)) loop.invariant.1 start.requires.3, omega arith)
+    (c.requires.2, subst⁻¹ (λ (n : ℕ). EachWithin c.args.size n (listed c.args.sources)) loop.invariant.1 c.requires.3, omega arith)
 
 pub loop-i-preserved : goal.loop-i-preserved
 loop-i-preserved c =
-    let start = c in
-    let args = start.args in
+    let args = c.args in
     let loop = c.loop-i in (
       omega arith,
       simp length-set (omega arith),
-      copied_more args.size args.stripe.now args.target (omega arith) (listed args.sources) start.requires.3 args.source (omega arith) loop.stripe loop.i
+      copied_more args.size args.stripe.now args.target (omega arith) (listed args.sources) c.requires.3 args.source (omega arith) loop.stripe loop.i
           c.symbol_byte-first.result c.sum.result (omega arith) loop.invariant.2 c.symbol_byte-first.ensures c.sum.ensures,
     )
 
 pub returns : goal.returns
 returns c =
-    let start = c in
-    let args = start.args in
+    let args = c.args in
     let loop = c.loop-i in
-    copied_all args.size args.stripe.now args.target (omega arith) (listed args.sources) start.requires.3 args.source (omega arith) loop.stripe loop.i (omega arith) loop.invariant.2
+    copied_all args.size args.stripe.now args.target (omega arith) (listed args.sources) c.requires.3 args.source (omega arith) loop.stripe loop.i (omega arith) loop.invariant.2

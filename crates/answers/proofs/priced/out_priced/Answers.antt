@@ -48,11 +48,10 @@ returns-else-settled c =
 
 pub returns-in-Patterns : goal.returns-in-Patterns
 returns-in-Patterns c =
-    let start = c in
-    let patterns = numerals start.args.answer.patterns in
+    let patterns = numerals c.args.answer.patterns in
     let known = c.in-Patterns in
-    let fits = subst (λ (priced : Priced). PatternFits (unpriced (with_patterns patterns priced))) known.is start.requires in
-    let first = get_or_numerals start.args.answer.patterns 0 ∙ first_of_some known.count patterns fits.1 in
+    let fits = subst (λ (priced : Priced). PatternFits (unpriced (with_patterns patterns priced))) known.is c.requires in
+    let first = get_or_numerals c.args.answer.patterns 0 ∙ first_of_some known.count patterns fits.1 in
     let word = c.low_word-first in
     ap (λ (sum : Float). shown sum word.result c.listed_count.result) zero_is
     ∙ ap₂ (shown (float 0)) (word.ensures ∙ ap (λ (n : ℕ). n % 2 ^ 64) first ∙ mod-eq_of_lt fits.0) c.listed_count.ensures

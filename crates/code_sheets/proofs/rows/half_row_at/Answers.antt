@@ -34,12 +34,11 @@ pub overflow_add-result-3 : goal.overflow_add-result-3
 overflow_add-result-3 c = omega (arith, c.wide.ensures.1, c.wide-2.ensures.1, c.wide-3.ensures.1, c.wide-4.ensures.1)
 
 pub returns : goal.returns
-returns c =
-    let start = c in (
-      four_bytes start.args.sheet.now start.args.at start.requires
-          c.wide.ensures.0
-          c.wide-2.ensures.0
-          c.wide-3.ensures.0
-          c.wide-4.ensures.0,
-      omega (arith, c.wide.ensures.1, c.wide-2.ensures.1, c.wide-3.ensures.1, c.wide-4.ensures.1),
-    )
+returns c = (
+  four_bytes c.args.sheet.now c.args.at c.requires
+      c.wide.ensures.0
+      c.wide-2.ensures.0
+      c.wide-3.ensures.0
+      c.wide-4.ensures.0,
+  omega (arith, c.wide.ensures.1, c.wide-2.ensures.1, c.wide-3.ensures.1, c.wide-4.ensures.1),
+)

@@ -1,3 +1,4 @@
+-- `code_sheets::rows::read_rows` meets its contract. Assumes nothing.
 use Prim.Native.Nat.{ℕ}
 use mathlib.Core.List.{List}
 use mathlib.Core.Path.{◌≡◌, ◌∙◌, ap}
@@ -22,16 +23,13 @@ row_read sheet s place e f = f ∙ ap (λ (at : ℕ). low_first (take 8 (drop at
 
 pub loop-s-preserved : goal.loop-s-preserved
 loop-s-preserved c =
-    let turn = c in
-    let start = turn in
-    let sheet = start.args.sheet.now in
-    let s = turn.loop-s.s in (
+    let sheet = c.args.sheet.now in
+    let s = c.loop-s.s in (
       omega arith,
-      numerals_set turn.loop-s.rows s c.row_at.result
-          ∙ rows_more (row_in sheet) start.args.symbols start.requires.0 s turn.loop-s.invariant.1 (omega arith) (row_read sheet s _ c.sheet_length.ensures c.row_at.ensures),
+      numerals_set c.loop-s.rows s c.row_at.result
+          ∙ rows_more (row_in sheet) c.args.symbols c.requires.0 s c.loop-s.invariant.1 (omega arith) (row_read sheet s _ c.sheet_length.ensures c.row_at.ensures),
     )
 
 pub returns : goal.returns
 returns c =
-    let start = c in
-    rows_all (row_in start.args.sheet.now) start.args.symbols start.requires.0 c.loop-s.s c.loop-s.invariant.1 (omega arith)
+    rows_all (row_in c.args.sheet.now) c.args.symbols c.requires.0 c.loop-s.s c.loop-s.invariant.1 (omega arith)

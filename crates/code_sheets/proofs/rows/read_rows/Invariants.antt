@@ -1,4 +1,4 @@
--- `code_sheets::rows::read_rows` meets its contract. The invariant: the rows stored so far are those of the sheet. Assumes nothing.
+-- The invariant of `code_sheets::rows::read_rows`: the rows stored so far are those of the sheet.
 use Prim.Native.Nat.{◌-◌, ◌≤◌}
 use mathlib.Core.Path.{◌≡◌}
 use Rattle.bits.specs.Lists.{tabulate}

@@ -5,6 +5,5 @@ use Rattle.code_sheets.proofs.rows.row_at.Goals as goal
 
 pub returns : goal.returns
 returns c =
-    let start = c in
     c.of_word.ensures
-    ∙ eight_bytes start.args.sheet.now start.args.at start.requires c.half_row_at-low.ensures.0 c.half_row_at-high.ensures.0
+    ∙ eight_bytes c.args.sheet.now c.args.at c.requires c.half_row_at-low.ensures.0 c.half_row_at-high.ensures.0

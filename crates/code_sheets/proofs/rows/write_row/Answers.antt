@@ -1,3 +1,4 @@
+-- `code_sheets::rows::write_row` meets its contract. Assumes nothing.
 use mathlib.Core.Path.{◌≡◌, refl, sym, ◌∙◌}
 use native.Mathlib.Omega.{arith}
 use lib.ListN.{length, length-set}
@@ -14,14 +15,13 @@ loop-i-init c = (omega arith, refl, paste-zero c.args.buffer.now c.args.at (low_
 
 pub loop-i-preserved : goal.loop-i-preserved
 loop-i-preserved c =
-    let turn = c in
-    let a = turn.args in
+    let a = c.args in
     let bytes = low_bytes 8 (numeral a.row) in
-    let i = turn.loop-i.i in
+    let i = c.loop-i.i in
     let size : length bytes ≡ 8 = length_low_bytes 8 (numeral a.row) in (
       omega arith,
       simp length-set (omega arith),
-      stored_more a.buffer.now bytes a.at (omega arith) _ i _ (omega arith) turn.loop-i.invariant.2
+      stored_more a.buffer.now bytes a.at (omega arith) _ i _ (omega arith) c.loop-i.invariant.2
           (c.byte_of.ensures ∙ sym (get_or_low_bytes 8 (numeral a.row) i (omega arith))),
     )
 

@@ -1,4 +1,4 @@
--- `code_sheets::rows::write_row` meets its contract. The invariant: the bytes passed are stored. Assumes nothing.
+-- The invariant of `code_sheets::rows::write_row`: the bytes passed are stored.
 use mathlib.Core.Path.{◌≡◌}
 use Prim.Native.Nat.{◌-◌, ◌≤◌}
 use lib.ListN.{length}

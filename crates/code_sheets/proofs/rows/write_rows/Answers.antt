@@ -1,3 +1,4 @@
+-- `code_sheets::rows::write_rows` meets its contract. Assumes nothing.
 use mathlib.Core.Path.{◌≡◌, refl, ap, ◌∙◌}
 use Prim.Native.Nat.{ℕ}
 use native.Mathlib.Omega.{arith}
@@ -19,15 +20,13 @@ write_row-requires c = omega (arith, c.sheet_length.ensures)
 
 pub loop-symbol-preserved : goal.loop-symbol-preserved
 loop-symbol-preserved c =
-    let turn = c in
-    let start = turn in
-    let sets = start.args.rows in
-    let symbol = turn.loop-symbol.symbol in
+    let sets = c.args.rows in
+    let symbol = c.loop-symbol.symbol in
     let stored = c.write_row in
-    let held : length (numerals sets) ≡ set_width = length_numerals sets ∙ array_length sets _ start.well_formed.0 in (
+    let held : length (numerals sets) ≡ set_width = length_numerals sets ∙ array_length sets _ c.well_formed.0 in (
       omega arith,
       omega (arith, stored.auto.buffer),
-      row_stored start.args.buffer.now (numerals sets) turn.loop-symbol.buffer _ symbol _ _ (omega arith) (omega arith) turn.loop-symbol.invariant.2
+      row_stored c.args.buffer.now (numerals sets) c.loop-symbol.buffer _ symbol _ _ (omega arith) (omega arith) c.loop-symbol.invariant.2
           c.sheet_length.ensures (get_or_numerals sets symbol) stored.ensures,
     )
 

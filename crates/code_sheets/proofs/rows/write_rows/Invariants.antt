@@ -1,4 +1,4 @@
--- `code_sheets::rows::write_rows` meets its contract. The invariant: the rows of the symbols passed are stored. Assumes nothing.
+-- The invariant of `code_sheets::rows::write_rows`: the rows of the symbols passed are stored.
 use mathlib.Core.Path.{◌≡◌}
 use Prim.Native.Nat.{◌-◌, ◌≤◌}
 use lib.ListN.{length, take}

@@ -8,23 +8,17 @@ use Rattle.code_sheets.proofs.write.write_code.Goals as goal
 
 pub write_head-requires : goal.write_head-requires
 write_head-requires c =
-    let start = c in
-    (start.requires.0, omega (arith, length_code_sheet (linear start.args.code) (omega arith)))
+    (c.requires.0, omega (arith, length_code_sheet (linear c.args.code) (omega arith)))
 
 pub write_rows-requires : goal.write_rows-requires
 write_rows-requires c =
-    let headed = c in
-    let start = headed in
-    let count : c.symbols.result ≡ symbols (linear start.args.code) = c.symbols.ensures in
-    let within = start.requires.0 in (
+    let count : c.symbols.result ≡ symbols (linear c.args.code) = c.symbols.ensures in
+    let within = c.requires.0 in (
       omega arith,
-      omega (arith, length_code_sheet (linear start.args.code) (omega arith), headed.write_head.auto.buffer),
+      omega (arith, length_code_sheet (linear c.args.code) (omega arith), c.write_head.auto.buffer),
     )
 
 pub returns : goal.returns
 returns c =
-    let counted = c in
-    let headed = counted in
-    let start = headed in
-    sheet_stored (linear start.args.code) start.args.buffer.now _ _ _ counted.symbols.ensures
-    headed.write_head.ensures c.write_rows.ensures
+    sheet_stored (linear c.args.code) c.args.buffer.now _ _ _ c.symbols.ensures
+    c.write_head.ensures c.write_rows.ensures

@@ -36,5 +36,4 @@ bounds-buffer-4 c = simp length-set (omega (arith, c.requires.1))
 
 pub returns : goal.returns
 returns c =
-    let start = c in
-    numbers_stored start.args.head start.args.buffer.now start.requires.1
+    numbers_stored c.args.head c.args.buffer.now c.requires.1

@@ -10,9 +10,8 @@ returns-then-edition-eq1 c =
 
 pub write_list-requires : goal.write_list-requires
 write_list-requires c =
-    let start = c in
-    let room = room_wanted start.args.edition start.args.wanted.now c.if-edition-eq1.false in
-    (start.requires.0, omega (arith, start.requires.1), omega (arith, start.requires.2, room))
+    let room = room_wanted c.args.edition c.args.wanted.now c.if-edition-eq1.false in
+    (c.requires.0, omega (arith, c.requires.1), omega (arith, c.requires.2, room))
 
 pub returns : goal.returns
 returns c =

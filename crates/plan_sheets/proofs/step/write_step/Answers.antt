@@ -7,21 +7,18 @@ use Rattle.plan_sheets.proofs.step.write_step.Goals as goal
 
 pub write_bytes-requires : goal.write_bytes-requires
 write_bytes-requires c =
-    let start = c in
-    let names = subst (NamesBelow 256) c.in-Clear.is start.requires.0 in
-    (omega arith, names, omega arith, start.requires.1)
+    let names = subst (NamesBelow 256) c.in-Clear.is c.requires.0 in
+    (omega arith, names, omega arith, c.requires.1)
 
 pub write_bytes-requires-in-Copy : goal.write_bytes-requires-in-Copy
 write_bytes-requires-in-Copy c =
-    let start = c in
-    let names = subst (NamesBelow 256) c.in-Copy.is start.requires.0 in
-    (omega arith, names.0, names.1, start.requires.1)
+    let names = subst (NamesBelow 256) c.in-Copy.is c.requires.0 in
+    (omega arith, names.0, names.1, c.requires.1)
 
 pub write_bytes-requires-in-Add : goal.write_bytes-requires-in-Add
 write_bytes-requires-in-Add c =
-    let start = c in
-    let names = subst (NamesBelow 256) c.in-Add.is start.requires.0 in
-    (omega arith, names.0, names.1, start.requires.1)
+    let names = subst (NamesBelow 256) c.in-Add.is c.requires.0 in
+    (omega arith, names.0, names.1, c.requires.1)
 
 pub returns-in-Clear : goal.returns-in-Clear
 returns-in-Clear c =

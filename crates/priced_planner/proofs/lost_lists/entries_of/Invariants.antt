@@ -1,4 +1,4 @@
--- `priced_planner::lost_lists::entries_of` meets its contract. The invariant: the entries so far, and the elements to come, are all elements. Assumes nothing.
+-- The invariant of `priced_planner::lost_lists::entries_of`: the entries so far, and the elements to come, are all elements.
 use mathlib.Core.Path.{◌≡◌}
 use mathlib.Core.List.{◌++◌}
 use Prim.Native.Nat.{◌-◌, ◌≤◌}

@@ -1,4 +1,4 @@
--- `priced_planner::lost_lists::lost_disks` meets its contract. The invariant: the set has the disks asked about, and those away among the disks passed. Assumes nothing.
+-- The invariant of `priced_planner::lost_lists::lost_disks`: the set has the disks asked about, and those away among the disks passed.
 use mathlib.Core.Path.{◌≡◌}
 use Prim.Native.Nat.{ℕ, ◌-◌, ◌≤◌}
 use Rattle.bits.specs.BitSets.{has}

@@ -23,29 +23,27 @@ encode_symbol-requires c = (omega arith, omega arith, omega arith)
 
 pub returns-then-lowest-eq0 : goal.returns-then-lowest-eq0
 returns-then-lowest-eq0 c =
-    let start = c in
-    let args = start.args in
+    let args = c.args in
     let loop = c.loop-e in
     let equations = numerals args.equations in
     let stripe = args.stripe.now in
     let whole : length stripe ≡ args.symbols * args.size = omega arith in
-    let within : loop.e < length equations = omega (arith, length_numerals args.equations, array_length args.equations _ start.well_formed.0) in
+    let within : loop.e < length equations = omega (arith, length_numerals args.equations, array_length args.equations _ c.well_formed.0) in
     let made =
     c.encode_symbol.ensures
     ∙ ap (λ (row : ℕ). encoded_symbol args.size stripe row args.symbols) (get_or_numerals args.equations loop.e) in
     lowest_is_first args.size args.symbols stripe equations (loop.e + 1) args.count (omega arith)
-    (omega (arith, length_numerals args.equations, array_length args.equations _ start.well_formed.0)) c.if-lowest-eq0.true
+    (omega (arith, length_numerals args.equations, array_length args.equations _ c.well_formed.0)) c.if-lowest-eq0.true
     (lowest_with_one_more args.size args.symbols stripe whole equations loop.e within loop.invariant.2 made (simp sub-zero at c.first_nonzero-lowest.ensures))
 
 pub loop-e-preserved : goal.loop-e-preserved
 loop-e-preserved c =
-    let start = c in
-    let args = start.args in
+    let args = c.args in
     let loop = c.loop-e in
     let equations = numerals args.equations in
     let stripe = args.stripe.now in
     let whole : length stripe ≡ args.symbols * args.size = omega arith in
-    let within : loop.e < length equations = omega (arith, length_numerals args.equations, array_length args.equations _ start.well_formed.0) in
+    let within : loop.e < length equations = omega (arith, length_numerals args.equations, array_length args.equations _ c.well_formed.0) in
     let made =
     c.encode_symbol.ensures
     ∙ ap (λ (row : ℕ). encoded_symbol args.size stripe row args.symbols) (get_or_numerals args.equations loop.e) in
