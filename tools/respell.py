@@ -24,7 +24,7 @@ def needs(word):
 
 
 def snake(word):
-    word = re.sub(r"\bgetD(?![a-z])", "get_or", word)
+    word = re.sub(r"\bgetD\b", "get_or", word)
     out = []
     for part in word.split("-"):
         if re.match(r"[A-Z]", part):
@@ -121,7 +121,7 @@ MIXED = {
     "entry_of_of_P": "entry_of_of_p",
     "may_write_lem": "may_write",
     "sum_is_lem": "sum_is",
-    "getD_tabulate": "get_or_tabulate",
+    "get_d_tabulate": "get_or_tabulate",
 }
 
 
