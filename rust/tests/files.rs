@@ -114,6 +114,7 @@ fn locked_files_are_left() {
         holder.lock().expect("locked");
         let said = folder.misused(line);
         assert!(said.contains("another program has locked it"), "{line}: {said}");
+        holder.unlock().expect("unlocked");
     }
     // Readers don't disturb each other, but nobody replaces what is being read.
     for (name, line) in lines {
@@ -628,7 +629,8 @@ fn the_living_keep_their_files_and_the_dead_lose_them() {
     {
         assert!(folder.has(name), "{name}");
     }
-    drop(alive);
+    // A process that another test is just starting has the handle too: closing it here alone need not end the lock.
+    alive.unlock().expect("unlocked");
     folder.done("plan code 0 -o new");
     assert!(!folder.has(".navorzim-12-ab14-0.part"));
 
