@@ -1,21 +1,13 @@
 -- Laws of the whole text: what it is for an input, and what a buffer holds once it is copied there. Assumes nothing.
 use mathlib.Core.Path.{◌≡◌, sym, ap, ap₂, ◌∙◌}
-use mathlib.Core.Bool.{Bool, true, false, cond}
-use mathlib.Core.List.{List, [], ◌∷◌, ◌++◌}
-use Prim.Native.Nat.{ℕ, ◌+◌, ◌≤◌, ◌<◌}
+use mathlib.Core.List.{List, [], ◌∷◌}
+use Prim.Native.Nat.{ℕ, ◌<◌}
 use native.Mathlib.Omega.{arith}
-use borrow.Author.Tests.{le-leb, lt-leb}
-use lib.Dec.{leb}
-use lib.ListN.{length, take, drop, get_or, set, length-append}
-use lib.Seq.{get_or-take, length-take-le}
-use Rattle.bits.proofs.StoreLaws.{overwritten, overwritten_more, overwritten_front}
+use lib.ListN.{length, length-append}
 use Rattle.plans.specs.Check.{checked}
 use Rattle.codes.specs.Codes.{LinearCode}
 use Rattle.lines.specs.Lines.{code_line, refusal_line, lines_of}
-use Rattle.desk_answers.specs.DeskAnswers.{code_sheet_in, plan_sheet_in, disk_in, desk_text, written_length, written_over}
-use Rattle.texts.specs.InnerTexts.{text_of, Holds}
-use Rattle.texts.specs.declared.Text.{Text}
-use Rattle.texts.proofs.TextLaws.{length_text_of}
+use Rattle.desk_answers.specs.DeskAnswers.{code_sheet_in, plan_sheet_in, disk_in, desk_text}
 use Rattle.refusals.specs.Refusals.{Numbered}
 use Rattle.refusals.specs.Orders.{Outcome, Fine, Refused, Answer}
 use Rattle.code_sheets.specs.CodeReading.{CodeRead, reading}
@@ -56,59 +48,3 @@ unfolding desk_text
 text_not_empty input =
     let read = reading (code_sheet_in input) in
     lines_not_empty read.verdict read.code (disk_in input) (checked (code_sheet_in input) (disk_in input ∷ []) (plan_sheet_in input))
-
--- ------------------------------------------------------------------
--- The text in a buffer
-
-module _ (text : Text) (size : length text.bytes ≡ 160) (within : text.len ≤ 160) (out : List ℕ) where
-  -- Where there is no room, nothing is written
-  pub no_room : length out < text.len → (0 ≡ written_length (text_of text) out) × (out ≡ written_over (text_of text) out)
-  unfolding written_length written_over
-  no_room h = (simp (lt-leb (length (text_of text)) (length out) short), simp (lt-leb (length (text_of text)) (length out) short))
-    where
-      short : length out < length (text_of text)
-      short = omega (arith, length_text_of text size within)
-
-  module _ (room : text.len ≤ length out) (new : List ℕ) (i : ℕ) (e : new ≡ overwritten out (text_of text) i) where
-    len : length (text_of text) ≡ text.len
-    len = length_text_of text size within
-
-    fits : length (text_of text) ≤ length out
-    fits = omega (arith, len)
-
-    -- One byte more is copied
-    pub copied_more : i < text.len → set new i (get_or text.bytes i 0) ≡ overwritten out (text_of text) (i + 1)
-    copied_more h = overwritten_more out (text_of text) fits new i _ (omega (arith, len)) e (sym (get_or-take text.len text.bytes i 0 h))
-
-    -- All bytes are copied
-    pub copied_whole : i ≡ text.len → (text.len ≡ written_length (text_of text) out) × (new ≡ written_over (text_of text) out)
-    unfolding written_length written_over
-    copied_whole all =
-        let has_room = le-leb (length (text_of text)) (length out) fits in
-        (sym len ∙ simp has_room, overwritten_front out (text_of text) fits new i (all ∙ sym len) e ∙ simp has_room)
-
--- What the copy leaves, said of the text that was held
-pub copied_as : (text : Text) (piece out : List ℕ) {answer : ℕ} {new : List ℕ} → Holds text piece
-    → answer ≡ written_length (text_of text) out → new ≡ written_over (text_of text) out
-    → (answer ≡ written_length piece out) × ((new ≡ written_over piece out) × (length piece ≤ 160))
-copied_as text piece out held e f = (
-  e ∙ ap (λ (l : List ℕ). written_length l out) held.holds,
-  (
-    f ∙ ap (λ (l : List ℕ). written_over l out) held.holds,
-    omega (arith, held.len_to, length_text_of text held.whole held.len_to, ap length held.holds),
-  ),
-)
-
--- A choice of lengths goes with the same choice of lists
-chosen_within : (test : Bool) (text rest out : List ℕ) → cond test (length text) 0 ≤ length (cond test (text ++ rest) out)
-chosen_within true text rest out = simp length-append (omega arith)
-chosen_within false text rest out = omega arith
-
--- What a caller may take of the buffer: the answer counts bytes at its front
-pub written_within : (text out : List ℕ) {answer : ℕ} {new : List ℕ} → answer ≡ written_length text out → new ≡ written_over text out
-    → (answer ≤ length new) × (answer ≡ length (take answer new))
-unfolding written_length written_over
-written_within text out {answer} {new} e f = (within, sym (length-take-le answer new within))
-  where
-    within : answer ≤ length new
-    within = omega (arith, e, ap length f, chosen_within (leb (length text) (length out)) text (drop (length text) out) out)

@@ -1,83 +1,53 @@
 // What the desk answers: the parts of its input, the check, and the lines in a buffer.
 #![tactic(auto)]
 
-ghost use Rattle.std.specs.Prelude.{◌≡◌, ◌≤◌, ◌<◌, length};
-ghost use Rattle.desk_answers.specs.DeskAnswers.{sheet_length_in, code_sheet_in, plan_sheet_in, desk_text, written_length, written_over};
-ghost use Rattle.texts.specs.InnerTexts.{text_of, Holds};
+ghost use Rattle.std.specs.Prelude.{◌≡◌, ◌≤◌, length};
+ghost use Rattle.desk_answers.specs.DeskAnswers.{code_sheet_in, plan_sheet_in, desk_text, written_length, written_over};
 
+use arrayvec::ArrayString;
 use checker::check;
 use code_sheets::read_code;
 use lines::{refusal_text, report};
 use refusals::Verdict;
 use sheets::{byte_at, two_bytes_at};
-use texts::Text;
 
-// The code sheet's length, low byte first.
-fn sheet_length(input: &[u8]) -> usize
-    ensures { (result ≡ sheet_length_in input.now) × (result < 65536) }
+// The code sheet, or what there is of it, and the plan sheet: what stands behind it, to the end.
+#[tactic(auto, unfolding(crate::specs::DeskAnswers::sheet_length_in, crate::specs::DeskAnswers::code_sheet_in, crate::specs::DeskAnswers::plan_sheet_in))]
+fn sheets_in(input: &[u8]) -> (&[u8], &[u8])
+    ensures code_sheet { result.0.now ≡ code_sheet_in input.now }
+    ensures plan_sheet { result.1.now ≡ plan_sheet_in input.now }
 {
-    two_bytes_at(input, 1)
+    let rest = input.get(3..).unwrap_or(&[]);
+    rest.split_at(two_bytes_at(input, 1).min(rest.len()))
 }
 
-// The code sheet, or what there is of it.
-fn code_sheet(input: &[u8]) -> &[u8]
-    ensures { result.now ≡ code_sheet_in input.now }
+// What the desk prints for an input; 160 bytes are room for every text.
+pub fn desk_text(input: &[u8]) -> ArrayString<160>
+    ensures { result.bytes ≡ desk_text input.now }
 {
-    if input.len() < 3 {
-        return &input[0..0];
-    }
-    let end = 3 + sheet_length(input);
-    if input.len() < end {
-        return &input[3..];
-    }
-    &input[3..end]
-}
-
-// The plan sheet: what stands behind the code sheet, to the end.
-fn plan_sheet(input: &[u8]) -> &[u8]
-    ensures { result.now ≡ plan_sheet_in input.now }
-{
-    let start = 3 + sheet_length(input);
-    if input.len() < start {
-        return &input[0..0];
-    }
-    &input[start..]
-}
-
-// What the desk prints for an input.
-fn desk_text(input: &[u8]) -> Text
-    ensures { Holds result (desk_text input.now) }
-{
-    let sheet = code_sheet(input);
-    let plan = plan_sheet(input);
+    let (sheet, plan) = sheets_in(input);
     let reading = read_code(sheet);
     let verdict = reading.verdict;
     let code = reading.code;
     let Verdict::Refused(refusal) = verdict else {
         let disk = byte_at(input, 0);
-        let disks = [disk as u8];
-        return report(code, disk, check(sheet, &disks, plan));
+        return report(code, disk, check(sheet, &[disk as u8], plan));
     };
     refusal_text(refusal)
 }
 
 // Copies a text to the front of a buffer that has room for it, and answers its length; else 0, and the buffer stays.
-fn copy_text(text: Text, out: &mut [u8]) -> usize
-    requires { (length text.bytes ≡ 160) × (text.len ≤ 160) }
-    ensures value { result ≡ written_length (text_of text) out.old }
-    ensures out_after { out.new ≡ written_over (text_of text) out.old }
+#[tactic(auto, unfolding(crate::specs::DeskAnswers::written_length, crate::specs::DeskAnswers::written_over))]
+fn copy_text(text: &[u8], out: &mut [u8]) -> usize
+    ensures value { result ≡ written_length text.now out.old }
+    ensures out_after { out.new ≡ written_over text.now out.old }
 {
-    let bytes = text.bytes;
-    let len = text.len;
-    if out.len() < len {
+    let length = text.len();
+    if out.len() < length {
         return 0;
     }
-    let mut i = 0;
-    while i < len {
-        out[i] = bytes[i];
-        i += 1;
-    }
-    len
+    out[..length].copy_from_slice(text);
+    length
 }
 
 // Writes what the desk prints for an input at the front of `out`, and answers the text's length; bytes behind it stay.
@@ -87,5 +57,5 @@ pub fn write_lines(input: &[u8], out: &mut [u8]) -> usize
     ensures out { out.new ≡ written_over (desk_text input.now) out.old }
     ensures short { length (desk_text input.now) ≤ 160 }
 {
-    copy_text(desk_text(input), out)
+    copy_text(desk_text(input).as_str().as_bytes(), out)
 }
