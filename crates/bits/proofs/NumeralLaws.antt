@@ -2,7 +2,7 @@
 use mathlib.Core.Path.{◌≡◌, refl, ap}
 use mathlib.Core.List.{List, [], ◌∷◌}
 use Prim.Native.Nat.{ℕ, zero, suc}
-use lib.ListN.{length, get_or, set, replicate}
+use lib.ListN.{length, get_or, set, take, drop, replicate}
 use borrow.Kind.Array.{good_length, e_struct}
 use denote.Array.{Array}
 use denote.Laws.{Is}
@@ -38,6 +38,20 @@ pub numerals_replicate : (count : ℕ) (x : BitSet) → numerals (replicate coun
 unfolding numerals
 numerals_replicate zero x = refl
 numerals_replicate (suc count) x = ap (λ (ns : List ℕ). numeral x ∷ ns) (numerals_replicate count x)
+
+-- The first sets' numbers
+pub numerals_take : (count : ℕ) (sets : List BitSet) → numerals (take count sets) ≡ take count (numerals sets)
+unfolding numerals
+numerals_take zero sets = refl
+numerals_take (suc count) [] = refl
+numerals_take (suc count) (x ∷ xs) = ap (λ (ns : List ℕ). numeral x ∷ ns) (numerals_take count xs)
+
+-- The numbers of the sets behind them
+pub numerals_drop : (count : ℕ) (sets : List BitSet) → numerals (drop count sets) ≡ drop count (numerals sets)
+unfolding numerals
+numerals_drop zero sets = refl
+numerals_drop (suc count) [] = refl
+numerals_drop (suc count) (x ∷ xs) = numerals_drop count xs
 
 -- An array that a function is handed holds as many sets as its type says
 pub array_length : (sets : List BitSet) (vs : List Val) → Is (Array (row the_type) set_width) sets vs → length sets ≡ set_width

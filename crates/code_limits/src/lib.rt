@@ -1,47 +1,40 @@
 // What a code keeps, whatever sheet it stands on: the limits of an array, and rows without a bit at K or above.
 #![tactic(auto)]
 
-ghost use Rattle.std.specs.Prelude.{◌≡◌, ◌≤◌, ◌<◌};
+ghost use Rattle.std.specs.Prelude.{◌≡◌, [], ◌∷◌, ◌≤◌, ◌<◌, length};
 ghost use Rattle.bits.specs.Numerals.{set_width, numerals};
-ghost use Rattle.refusals.specs.Orders.{outcome, and_then};
-ghost use Rattle.code_limits.specs.CodeLimits.{limit_faults, first_stray};
+ghost use Rattle.refusals.specs.Orders.{outcome, first_of};
+ghost use Rattle.code_limits.specs.CodeLimits.{limit_faults, stray_fault};
 
-use bits::{BitSets, has, lowest_from};
-use refusals::{Refusal, Verdict};
+use bits::{BitSet, lowest_from};
+use refusals::{Refusal, Verdict, refuse_if};
 
-// The limits of an array, behind the verdict so far.
-pub fn limit_test(verdict: Verdict, disks: usize, height: usize, data_symbols: usize) -> Verdict
+// The limits of an array.
+pub fn limit_test(disks: usize, height: usize, data_symbols: usize) -> Verdict
     requires { (disks < 256) × (height < 256) }
-    ensures { outcome result ≡ and_then (outcome verdict) (limit_faults disks height data_symbols) }
+    ensures { outcome result ≡ first_of (limit_faults disks height data_symbols) }
 {
-    verdict
-        .or_if(disks < 2, Refusal::CodeBeyondLimit)
-        .or_if(64 < disks, Refusal::CodeBeyondLimit)
-        .or_if(height < 1, Refusal::CodeBeyondLimit)
-        .or_if(32 < height, Refusal::CodeBeyondLimit)
-        .or_if(64 < disks * height, Refusal::CodeBeyondLimit)
-        .or_if(data_symbols < 1, Refusal::CodeBeyondLimit)
-        .or_if(64 < data_symbols, Refusal::CodeBeyondLimit)
+    refuse_if(disks < 2, Refusal::CodeBeyondLimit)?;
+    refuse_if(64 < disks, Refusal::CodeBeyondLimit)?;
+    refuse_if(height < 1, Refusal::CodeBeyondLimit)?;
+    refuse_if(32 < height, Refusal::CodeBeyondLimit)?;
+    refuse_if(64 < disks * height, Refusal::CodeBeyondLimit)?;
+    refuse_if(data_symbols < 1, Refusal::CodeBeyondLimit)?;
+    refuse_if(64 < data_symbols, Refusal::CodeBeyondLimit)
 }
 
-// The first stray bit, as row times 64 plus bit; the place behind the last row where there is none.
-pub fn first_stray(rows: BitSets, symbols: usize, data_symbols: usize) -> usize
-    requires { (symbols ≤ set_width) × (data_symbols ≤ 64) }
-    ensures { result ≡ first_stray (numerals rows) symbols data_symbols }
+// 6 for the first stray bit, at row times 64 plus bit.
+pub fn stray_test(rows: &[BitSet], data_symbols: usize) -> Verdict
+    requires { (length rows.now ≤ set_width) × (data_symbols ≤ 64) }
+    ensures { outcome result ≡ first_of (stray_fault (numerals rows.now) (length rows.now) data_symbols ∷ []) }
 {
-    let mut row = 0;
-    let mut place = symbols * 64;
-    'search: while row < symbols {
-        let bits = rows[row];
-        let mut bit = lowest_from(bits, data_symbols); // no bit of the row, where none is stray
-        while bit < 64 {
-            if has(bits, bit) {
-                place = row * 64 + bit;
-                break 'search;
-            }
-            bit += 1;
+    for (row, bits) in rows.iter().enumerate() {
+        let bit = lowest_from(*bits, data_symbols);
+        if bit < 64 {
+            return Err(Refusal::StrayBit {
+                place: row * 64 + bit,
+            });
         }
-        row += 1;
     }
-    place
+    Ok(())
 }

@@ -1,25 +1,28 @@
 -- Laws of reading a code sheet: what each outcome of the head and of the search answers, and the limits of a code that is read. Assumes nothing.
 use mathlib.Core.Path.{◌≡◌, refl, sym, ap, ap₂, ◌∙◌, subst}
-use mathlib.Core.Bool.{Bool, true, false, cond}
+use mathlib.Core.Bool.{◌&&◌}
 use mathlib.Core.List.{List, [], ◌∷◌}
-use Prim.Native.Nat.{ℕ, ◌+◌, ◌*◌, ◌^◌, ◌≤◌, ◌<◌}
+use Prim.Native.Nat.{ℕ, ◌+◌, ◌*◌, ◌/◌, ◌%◌, ◌^◌, ◌≤◌, ◌<◌}
 use native.Mathlib.Omega.{arith}
-use lib.Dec.{ltb}
-use lib.ListN.{length, get_or, drop}
+use lib.Dec.{leb, ltb}
+use lib.ListN.{length, get_or, get_or-eq_default, take, drop}
+use native.Mathlib.Decide.{dec_lt}
+use Rattle.std.proofs.lemmas.List.{get_or-take, length-take-le}
 use lib.Seq.{get_or-drop}
 use borrow.Author.Tests.{ltb-false, lt-ltb, le-ltb, not-false, eqb-true}
 use Rattle.codes.specs.Codes.{LinearCode, no_code, rows_of, WithinLimits}
 use Rattle.codes.specs.Layouts.{symbols_of}
 use Rattle.codes.proofs.RowLaws.{length_rows_of, get_or_rows_of, get_or_rows_of_behind, rows_of_below}
 use Rattle.bits.specs.BitSets.{has}
-use Rattle.refusals.specs.Orders.{or_if, first_of, if_fine, Outcome, Fine, Refused}
+use Rattle.bits.specs.Numerals.{set_width}
+use Rattle.refusals.specs.Orders.{Fault, or_if, and_then, first_of, if_fine, Outcome, Fine, Refused}
 use Rattle.refusals.specs.Refusals.{Numbered, ◌at◌}
-use Rattle.refusals.proofs.OrderLaws.{fine_means_none_holds}
+use Rattle.refusals.proofs.OrderLaws.{refusal_stands, fine_means_none_holds}
 use Rattle.code_limits.specs.CodeLimits.{stray_at, first_stray, stray_fault}
 use Rattle.code_sheets.specs.CodeSheets.{sheet_length, row_in, code_in}
 use Rattle.code_sheets.specs.CodeReading.{head_faults, code_verdict, CodeRead, reading}
 use Rattle.sheets.proofs.ByteLaws.{low_first_below}
-use Rattle.bits.proofs.SearchLaws.{none_if_first_from_behind}
+use Rattle.bits.proofs.SearchLaws.{first_from_alike, none_if_first_from_behind}
 use Rattle.bits.proofs.SetLaws.{below_if_no_high_bits}
 use Rattle.code_limits.proofs.StrayLaws.{stray_at_high}
 
@@ -68,34 +71,63 @@ module _ (sheet : List ℕ) where
   -- The head is refused: so is the sheet, and there is no code
   pub reading_head_refused : (refusal : Numbered) → head_of sheet ≡ Refused refusal
       → reading sheet ≡ record { verdict = Refused refusal; code = no_code }
-  unfolding or_if
   reading_head_refused refusal e =
       answered (Refused refusal)
       (code_verdict_by_head ∙ ap (λ (v : Outcome). or_if v (ltb (stray_of sheet) (get_or sheet 5 0 * 64)) (6 at stray_of sheet)) e)
 
-  by_search : (found : Bool) → head_of sheet ≡ Fine → ltb (stray_of sheet) (get_or sheet 5 0 * 64) ≡ found
-      → code_verdict sheet ≡ cond found (Refused (6 at stray_of sheet)) Fine
-  unfolding or_if
-  by_search found e f = code_verdict_by_head ∙ ap₂ (λ (v : Outcome) (b : Bool). or_if v b (6 at stray_of sheet)) e f
+  -- A fine head leaves the verdict to the rows
+  by_rows : {verdict : Outcome} → head_of sheet ≡ Fine → verdict ≡ first_of (stray_fault (code_in sheet).rows (get_or sheet 5 0) (get_or sheet 4 0) ∷ [])
+      → code_verdict sheet ≡ verdict
+  by_rows e told =
+      code_verdict_by_head ∙ ap (λ (v : Outcome). or_if v (ltb (stray_of sheet) (get_or sheet 5 0 * 64)) (6 at stray_of sheet)) e ∙ sym told
 
-  -- A stray bit is found: its place is the refusal's
-  pub reading_stray : head_of sheet ≡ Fine → stray_of sheet < get_or sheet 5 0 * 64
-      → reading sheet ≡ record { verdict = Refused (6 at stray_of sheet); code = no_code }
-  reading_stray e found = answered (Refused (6 at stray_of sheet)) (by_search true e (lt-ltb _ _ found))
+  -- A stray bit is found: what is refused of the rows is refused of the sheet
+  pub reading_stray : (refusal : Numbered) → head_of sheet ≡ Fine
+      → Refused refusal ≡ first_of (stray_fault (code_in sheet).rows (get_or sheet 5 0) (get_or sheet 4 0) ∷ [])
+      → reading sheet ≡ record { verdict = Refused refusal; code = no_code }
+  reading_stray refusal e told = answered (Refused refusal) (by_rows e told)
 
   -- Nothing is wrong: the code is the sheet's
-  pub reading_fine : head_of sheet ≡ Fine → get_or sheet 5 0 * 64 ≤ stray_of sheet
+  pub reading_fine : head_of sheet ≡ Fine → Fine ≡ first_of (stray_fault (code_in sheet).rows (get_or sheet 5 0) (get_or sheet 4 0) ∷ [])
       → reading sheet ≡ record { verdict = Fine; code = code_in sheet }
-  reading_fine e none = answered Fine (by_search false e (le-ltb _ _ none))
+  reading_fine e told = answered Fine (by_rows e told)
 
--- Rows and numbers as read are the sheet's: so is the first stray bit
-pub stray_as_read : (sheet rows : List ℕ) {count data_symbols stray : ℕ} → rows ≡ rows_of count (row_in sheet) → count ≡ get_or sheet 5 0
-    → data_symbols ≡ get_or sheet 4 0 → stray ≡ first_stray rows count data_symbols → stray ≡ stray_of sheet
+-- The rows of the symbols are all that a search for a stray bit looks at
+stray_of_rows : (count data_symbols : ℕ) (row : ℕ → ℕ) → count ≤ set_width
+    → stray_fault (take count (rows_of count row)) (length (take count (rows_of count row))) data_symbols ≡ stray_fault (rows_of count row) count data_symbols
+unfolding stray_at
+stray_of_rows count data_symbols row small =
+    let held = length_rows_of row count small in
+    let many : length (take count rows) ≡ count = length-take-le count rows (omega (arith, held, small)) in
+    let stray : first_stray (take count rows) count data_symbols ≡ first_stray rows count data_symbols =
+    first_from_alike (stray_at (take count rows) data_symbols) (stray_at rows data_symbols) (count * 64) 0 (λ place from. same_at place) in
+    rw (many, stray)
+  where
+    rows : List ℕ
+    rows = rows_of count row
+
+    entry : (i : ℕ) → get_or (take count rows) i 0 ≡ get_or rows i 0
+    entry i = by_end (dec_lt i count)
+      where
+        by_end : Dec (i < count) → get_or (take count rows) i 0 ≡ get_or rows i 0
+        by_end (yes below) = get_or-take count rows i 0 below
+        by_end (no behind) =
+            get_or-eq_default (take count rows) 0 (omega (arith, length-take-le count rows (omega (arith, length_rows_of row count small, small))))
+            ∙ sym (get_or_rows_of_behind row count i (omega arith))
+
+    same_at : (place : ℕ) → stray_at (take count rows) data_symbols place ≡ stray_at rows data_symbols place
+    same_at place = ap (λ (r : ℕ). leb data_symbols (place % 64) && has r (place % 64)) (entry (place / 64))
+
+-- Rows and numbers as read are the sheet's: so is what is found of a stray bit
+pub stray_as_read : (sheet rows : List ℕ) {count data_symbols : ℕ} {verdict : Outcome} → rows ≡ rows_of count (row_in sheet) → count ≡ get_or sheet 5 0
+    → data_symbols ≡ get_or sheet 4 0 → count ≤ set_width → verdict ≡ first_of (stray_fault (take count rows) (length (take count rows)) data_symbols ∷ [])
+    → verdict ≡ first_of (stray_fault (code_in sheet).rows (get_or sheet 5 0) (get_or sheet 4 0) ∷ [])
 unfolding code_in
-stray_as_read sheet rows rows_read count_read data_read e =
-    e ∙ ap₂ (λ (n : ℕ) (k : ℕ). first_stray rows n k) count_read data_read
-    ∙ ap (λ (l : List ℕ). first_stray l (get_or sheet 5 0) (get_or sheet 4 0))
-    (rows_read ∙ ap (λ (n : ℕ). rows_of n (row_in sheet)) count_read)
+stray_as_read sheet rows {count} {data_symbols} rows_read count_read data_read small e =
+    e
+    ∙ ap (λ (l : List ℕ). first_of (stray_fault (take count l) (length (take count l)) data_symbols ∷ [])) rows_read
+    ∙ ap (λ (fault : Fault). first_of (fault ∷ [])) (stray_of_rows count data_symbols (row_in sheet) small)
+    ∙ ap₂ (λ (n k : ℕ). first_of (stray_fault (rows_of n (row_in sheet)) n k ∷ [])) count_read data_read
 
 -- and so is the code
 pub code_as_read : (sheet rows : List ℕ) {disks height data_symbols count : ℕ} → disks ≡ get_or sheet 2 0 → height ≡ get_or sheet 3 0
@@ -212,25 +244,21 @@ code_within_limits sheet bytes e = subst WithinLimits (sym (reading_code sheet e
           rows_behind = λ s h. get_or_rows_of_behind (row_in sheet) count s (omega (arith, head.symbols_are));
         }
 
--- What reading answers keeps its whole promise
-pub reading_kept : (sheet : List ℕ) → ((i : ℕ) → get_or sheet i 0 < 256) → {answer : CodeRead} → answer ≡ reading sheet
-    → (answer ≡ reading sheet) × (answer.verdict ≡ Fine → WithinLimits answer.code)
-reading_kept sheet bytes {answer} e = (
-  e,
-  λ fine. subst (λ (r : CodeRead). WithinLimits r.code) (sym e)
-      (code_within_limits sheet bytes (ap (λ (r : CodeRead). r.verdict) (sym e) ∙ fine)),
-)
-
 -- ------------------------------------------------------------------
 -- What a caller has read
 
--- What `read_code` promises of its answer: it is the reading, and within the limits where nothing is refused
-abbrev pub ReadFrom : List ℕ → CodeRead → Type 0
-ReadFrom sheet read = (read ≡ reading sheet) × (read.verdict ≡ Fine → WithinLimits read.code)
+module _ (sheet : List ℕ) where
+  -- A code that was read is the sheet's, and nothing is refused of it
+  pub read_ok : {code : LinearCode} → record { verdict = Fine; code = code } ≡ reading sheet → ((reading sheet).verdict ≡ Fine) × ((reading sheet).code ≡ code)
+  read_ok e = (ap (λ (r : CodeRead). r.verdict) (sym e), ap (λ (r : CodeRead). r.code) (sym e))
 
--- The numbers of the layout, read or not, are small
-pub layout_small : (sheet : List ℕ) (read : CodeRead) → ReadFrom sheet read
-    → (read.code.layout.disks ≤ 255) × (read.code.layout.height ≤ 255)
-layout_small sheet read from =
-    let small : Small read.code = subst (λ (r : CodeRead). Small r.code) (sym from.0) (reading_small sheet) in
-    (omega (arith, small.disks_to), omega (arith, small.height_to))
+  -- What refuses a code sheet refuses each call on it, whatever the call tests behind
+  pub read_refused : {refusal : Numbered} (faults : LinearCode → List Fault) → record { verdict = Refused refusal; code = no_code } ≡ reading sheet
+      → Refused refusal ≡ and_then (reading sheet).verdict (faults (reading sheet).code)
+  read_refused {refusal} faults e =
+      sym (refusal_stands refusal (faults no_code)) ∙ ap (λ (r : CodeRead). and_then r.verdict (faults r.code)) e
+
+  -- Where the code sheet is read, what the call tests behind it decides
+  pub read_then : {code : LinearCode} {verdict : Outcome} (faults : LinearCode → List Fault) → record { verdict = Fine; code = code } ≡ reading sheet
+      → verdict ≡ first_of (faults code) → verdict ≡ and_then (reading sheet).verdict (faults (reading sheet).code)
+  read_then faults e told = told ∙ ap (λ (r : CodeRead). and_then r.verdict (faults r.code)) e

@@ -1,12 +1,13 @@
 -- Refusals 1 to 6 and reading (document 01, "When the desk says no"):
 -- "Order for a code sheet: under 6 bytes (1), first count (3), 4, 5, second count (3), 1, 2, 6."
-use Rattle.std.specs.Prelude.{not, List, [], ◌∷◌, ◌++◌, ℕ, ◌*◌, eqb, ltb, length, get_or}
+use Rattle.std.specs.Prelude.{not, List, [], ◌∷◌, ◌++◌, ℕ, ◌*◌, eqb, ltb, length, get_or, Result, Ok, Err}
+use Rattle.codes.specs.declared.Code.{Code}
 use Rattle.codes.specs.Codes.{LinearCode, linear, no_code}
-use Rattle.refusals.specs.Orders.{Fault, ◌gets◌, first_of, if_fine, Outcome, outcome}
-use Rattle.refusals.specs.Refusals.{◌at◌}
+use Rattle.refusals.specs.Orders.{Fault, ◌gets◌, first_of, if_fine, Outcome, Fine, Refused}
+use Rattle.refusals.specs.Refusals.{numbered, ◌at◌}
+use Rattle.refusals.specs.declared.Refusal.{Refusal}
 use Rattle.code_limits.specs.CodeLimits.{limit_faults, stray_fault}
 use Rattle.code_sheets.specs.CodeSheets.{sheet_length, code_in}
-use Rattle.code_sheets.specs.declared.Reading.{Reading}
 
 -- The order up to the rows, for a sheet of `sheet_bytes` bytes
 abbrev pub head_faults : ℕ → ℕ → ℕ → ℕ → ℕ → ℕ → ℕ → List Fault
@@ -39,6 +40,7 @@ pub record CodeRead : Type 0 where
 unfoldable pub reading : List ℕ → CodeRead
 reading sheet = record { verdict = code_verdict sheet; code = if_fine (code_verdict sheet) (code_in sheet) no_code }
 
--- What a `Reading` stands for
-abbrev pub as_read : Reading → CodeRead
-as_read read = record { verdict = outcome read.verdict; code = linear read.code }
+-- What the result of reading stands for
+abbrev pub as_read : Result Code Refusal → CodeRead
+as_read (Ok code) = record { verdict = Fine; code = linear code }
+as_read (Err refusal) = record { verdict = Refused (numbered refusal); code = no_code }

@@ -49,10 +49,8 @@ pub fn read_rows(sheet: &[u8], symbols: usize) -> BitSets
     ensures { numerals result ≡ rows_of symbols (row_in sheet.now) }
 {
     let mut rows = empty_sets();
-    let mut s = 0;
-    while s < symbols {
+    for s in 0..symbols {
         rows[s] = row_at(sheet, sheet_length(s));
-        s += 1;
     }
     rows
 }
@@ -62,10 +60,8 @@ fn write_row(row: BitSet, buffer: &mut [u8], at: usize)
     requires { at + 8 ≤ length buffer.old }
     ensures { buffer.new ≡ from_place at (low_bytes 8 (numeral row)) buffer.old }
 {
-    let mut i = 0;
-    while i < 8 {
+    for i in 0..8 {
         buffer[at + i] = byte_of(row, i);
-        i += 1;
     }
 }
 
@@ -74,9 +70,7 @@ pub fn write_rows(rows: BitSets, symbols: usize, buffer: &mut [u8])
     requires { (symbols ≤ set_width) × (sheet_length symbols ≤ length buffer.old) }
     ensures { buffer.new ≡ from_place 6 (row_bytes (take symbols (numerals rows))) buffer.old }
 {
-    let mut symbol = 0;
-    while symbol < symbols {
+    for symbol in 0..symbols {
         write_row(rows[symbol], buffer, sheet_length(symbol));
-        symbol += 1;
     }
 }

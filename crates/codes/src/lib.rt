@@ -3,25 +3,28 @@
 
 ghost use Rattle.std.specs.Prelude.{◌≡◌, ◌*◌, ◌≤◌, ◌<◌, eqb};
 ghost use Rattle.codes.specs.Lengths.{symbol_length_faults, stripe_faults};
-ghost use Rattle.refusals.specs.Orders.{outcome, and_then};
+ghost use Rattle.refusals.specs.Orders.{outcome, first_of};
+ghost use Rattle.bits.specs.Numerals.{numerals};
+ghost use Rattle.codes.specs.LinearCodes.{WithinLimits, matrix};
 ghost use Rattle.codes.specs.Layouts.{symbols_of, first_symbol, height_of, disk_of, on_disk};
 
-use bits::BitSets;
-use refusals::{Refusal, Verdict};
+use bits::{BitSet, BitSets};
+use refusals::{Refusal, Verdict, refuse_if};
 
 // The disks of an array and the symbols on each. Symbols are numbered disk after disk.
-#[derive(Clone, Copy)]
+#[derive(Clone, Copy, Debug, PartialEq, Eq)]
 pub struct Layout {
     pub disks: usize,
     pub height: usize,
 }
 
-// A code, held whole: row s of the generator matrix is rows[s]; rows behind the last symbol are empty.
+// A code within the limits, held whole: row s of the generator matrix is rows[s]; rows behind the last symbol are empty.
 #[derive(Clone, Copy)]
 pub struct Code {
     pub layout: Layout,
     pub data_symbols: usize,
     pub rows: BitSets,
+    ghost within: { WithinLimits (record { layout = layout; data_symbols = data_symbols; rows = numerals rows }) },
 }
 
 impl Layout {
@@ -76,19 +79,30 @@ pub fn is_length(bytes: usize, count: usize, size: usize) -> bool
     bytes % size == 0 && bytes / size == count
 }
 
-// 31, after the verdict so far.
-pub fn symbol_length_test(verdict: Verdict, size: usize) -> Verdict
-    ensures { outcome result ≡ and_then (outcome verdict) (symbol_length_faults size) }
-{
-    verdict
-        .or_if(size == 0, Refusal::SymbolLength)
-        .or_if(65536 < size, Refusal::SymbolLength)
+impl Code {
+    ghost use Rattle.codes.specs.Codes.{linear};
+
+    // The rows of the symbols: the generator matrix.
+    pub fn matrix(&self) -> &[BitSet]
+        ensures { numerals result.now ≡ matrix (linear self.now) }
+    {
+        &self.rows[..self.layout.symbols()]
+    }
 }
 
-// 31, 32, after the verdict so far: is this a stripe of so many symbols of `size` bytes?
-pub fn stripe_test(verdict: Verdict, symbols: usize, size: usize, stripe_bytes: usize) -> Verdict
-    ensures { outcome result ≡ and_then (outcome verdict) (stripe_faults symbols size stripe_bytes) }
+// 31.
+pub fn symbol_length_test(size: usize) -> Verdict
+    ensures { outcome result ≡ first_of (symbol_length_faults size) }
+{
+    refuse_if(size == 0, Refusal::SymbolLength)?;
+    refuse_if(65536 < size, Refusal::SymbolLength)
+}
+
+// 31, 32: is this a stripe of so many symbols of `size` bytes?
+pub fn stripe_test(symbols: usize, size: usize, stripe_bytes: usize) -> Verdict
+    ensures { outcome result ≡ first_of (stripe_faults symbols size stripe_bytes) }
 {
     let whole = is_length(stripe_bytes, symbols, size);
-    symbol_length_test(verdict, size).or_if(!whole, Refusal::StripeLength)
+    symbol_length_test(size)?;
+    refuse_if(!whole, Refusal::StripeLength)
 }

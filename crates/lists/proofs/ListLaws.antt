@@ -9,6 +9,9 @@ use lib.Dec.{eqb, leb, ltb}
 use lib.ListN.{length, get_or, take, drop, drop_of_length-le}
 use borrow.Author.Tests.{leb-false, ltb-false, ltb-true, le-leb, lt-leb, le-ltb, eq-eqb, ne_eqb, eqb-true, not-false}
 use lib.Seq.{take_all, drop-cons}
+use Rattle.std.specs.Cmp.Lexicographic.{pointwise}
+use Rattle.std.specs.List.{list_any}
+use Rattle.std.specs.Prelude.{nat_eq}
 use Rattle.bits.specs.BitSets.{has, with}
 use Rattle.bits.proofs.Booleans.{or_false_both, or_shift, and_left, and_right}
 use Rattle.bits.proofs.SearchLaws.{first_from_none, first_from_found, none_if_first_from_behind}
@@ -133,34 +136,16 @@ module _ (disks most : ℕ) (list : List ℕ) where
 
 -- One disk that is none of the array's is refused with 7, whatever is tested behind
 pub no_such_disk : (disks most disk : ℕ) (rest : List Fault) → disks ≤ disk → and_then Fine (disk_faults disks most (disk ∷ []) ++ rest) ≡ Refused (7 at 0)
-unfolding any_from or_if
+unfolding any_from
 no_such_disk disks most disk rest beyond =
     let later = list_faults 1 most (λ d. ltb d disks) (disk ∷ []) (λ position. 24 at position) ++ rest in
     ap (λ (c : Bool). and_then (or_if Fine (c || false) (7 at 0)) later) (le-leb disks disk beyond) ∙ refusal_stands (7 at 0) later
 
-module _ (bound : ℕ) (list : List ℕ) (i : ℕ) where
-  -- An entry from the bound on
-  pub any_from_found : i < length list → any_from bound (drop i list) ≡ any_from bound list → bound ≤ get_or list i 0 → true ≡ any_from bound list
-  unfolding any_from
-  any_from_found h left from =
-      sym (ap (λ (c : Bool). c || any_from bound (drop (suc i) list)) (le-leb bound (get_or list i 0) from))
-      ∙ ap (any_from bound) (sym (drop-cons list i 0 h))
-      ∙ left
-
-  -- An entry below the bound leaves it to those behind it
-  pub any_from_passed : i < length list → any_from bound (drop i list) ≡ any_from bound list → get_or list i 0 < bound
-      → any_from bound (drop (i + 1) list) ≡ any_from bound list
-  unfolding any_from
-  any_from_passed h left below =
-      ap (λ (n : ℕ). any_from bound (drop n list)) (add-one i)
-      ∙ sym (ap (λ (c : Bool). c || any_from bound (drop (suc i) list)) (lt-leb bound (get_or list i 0) below))
-      ∙ ap (any_from bound) (sym (drop-cons list i 0 h))
-      ∙ left
-
-  -- Behind the last entry there is none
-  pub any_from_none : length list ≤ i → any_from bound (drop i list) ≡ any_from bound list → false ≡ any_from bound list
-  unfolding any_from
-  any_from_none all left = sym (ap (any_from bound) (drop_of_length-le list all)) ∙ left
+-- An entry from a bound on is looked for
+pub any_from_is_any : (bound : ℕ) (list : List ℕ) → any_from bound list ≡ list_any (leb bound) list
+unfolding any_from
+any_from_is_any bound [] = refl
+any_from_is_any bound (entry ∷ list) = ap (λ (c : Bool). leb bound entry || c) (any_from_is_any bound list)
 
 -- ------------------------------------------------------------------
 -- Two lists as one
@@ -180,33 +165,10 @@ unfolding same
 same_itself [] = refl
 same_itself (entry ∷ list) = rw (eq-eqb entry entry refl) (same_itself list)
 
--- Lists of other lengths don't
-pub same_lengths : (list other : List ℕ) → (length list ≡ length other → ⊥) → false ≡ same list other
-same_lengths list other apart = by_test (same list other) refl
-  where
-    by_test : (c : Bool) → same list other ≡ c → false ≡ c
-    by_test true e = absurd (apart (ap length (same_means_equal list other e)))
-    by_test false e = refl
-
-module _ (list other : List ℕ) (i : ℕ) (left : same (drop i list) (drop i other) ≡ same list other) where
-  -- Where entries differ, the lists do
-  pub same_apart : i < length list → i < length other → (get_or list i 0 ≡ get_or other i 0 → ⊥) → false ≡ same list other
-  unfolding same
-  same_apart h g apart =
-      sym (ap (λ (c : Bool). c && same (drop (suc i) list) (drop (suc i) other)) (ne_eqb (get_or list i 0) (get_or other i 0) apart))
-      ∙ sym (ap₂ same (drop-cons list i 0 h) (drop-cons other i 0 g))
-      ∙ left
-
-  -- Where they don't, those behind them decide
-  pub same_passed : i < length list → i < length other → get_or list i 0 ≡ get_or other i 0 → same (drop (i + 1) list) (drop (i + 1) other) ≡ same list other
-  unfolding same
-  same_passed h g alike =
-      ap (λ (n : ℕ). same (drop n list) (drop n other)) (add-one i)
-      ∙ sym (ap (λ (c : Bool). c && same (drop (suc i) list) (drop (suc i) other)) (eq-eqb (get_or list i 0) (get_or other i 0) alike))
-      ∙ sym (ap₂ same (drop-cons list i 0 h) (drop-cons other i 0 g))
-      ∙ left
-
-  -- Behind the last entries the lists are one
-  pub same_ended : length list ≤ i → length other ≤ i → true ≡ same list other
-  unfolding same
-  same_ended all all' = sym (ap₂ same (drop_of_length-le list all) (drop_of_length-le other all')) ∙ left
+-- Lists are one where they are entry by entry
+pub same_by_entries : (list other : List ℕ) → pointwise nat_eq list other ≡ same list other
+unfolding same
+same_by_entries [] [] = refl
+same_by_entries [] (y ∷ ys) = refl
+same_by_entries (x ∷ xs) [] = refl
+same_by_entries (x ∷ xs) (y ∷ ys) = ap (λ (c : Bool). eqb x y && c) (same_by_entries xs ys)

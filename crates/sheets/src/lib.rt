@@ -9,10 +9,7 @@ ghost use Rattle.sheets.specs.Bytes.{two_bytes_at, counted};
 pub fn byte_at(sheet: &[u8], at: usize) -> usize
     ensures { (result ≡ get_or sheet.now at 0) × (result < 256) }
 {
-    if at < sheet.len() {
-        return sheet[at] as usize;
-    }
-    0
+    usize::from(sheet.get(at).copied().unwrap_or(0))
 }
 
 // The number that two bytes of a sheet make, low byte first.
@@ -37,11 +34,7 @@ pub fn write_list(list: &[u8], at: usize, buffer: &mut [u8])
     requires { (length list.now < 256) × (at < 65536) × (at + 1 + length list.now ≤ length buffer.old) }
     ensures { buffer.new ≡ from_place at (counted list.now) buffer.old }
 {
-    let count = list.len();
-    buffer[at] = count as u8;
-    let mut i = 0;
-    while i < count {
-        buffer[at + 1 + i] = list[i];
-        i += 1;
-    }
+    let first = at + 1;
+    buffer[at] = list.len() as u8;
+    buffer[first..first + list.len()].copy_from_slice(list);
 }

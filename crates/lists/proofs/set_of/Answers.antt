@@ -1,24 +1,19 @@
 -- `lists::set_of` meets its contract. Assumes nothing.
-use mathlib.Core.Path.{sym, subst}
-use Prim.Native.Nat.{ℕ, ◌<◌}
-use native.Mathlib.Omega.{arith}
-use Rattle.bits.specs.Numerals.{set_width, numeral}
+use Rattle.std.proofs.Common.{ℕ, refl, ap, ◌∙◌, arith}
+use Rattle.bits.specs.BitSets.{with}
+use Rattle.bits.specs.Numerals.{numeral}
 use Rattle.lists.proofs.ListLaws.{listed_none, listed_joins, listed_all}
 use Rattle.lists.proofs.set_of.Goals as goal
 
-pub loop-i-init : goal.loop-i-init
-loop-i-init c = (omega arith, λ s. rw c.empty-set.ensures (listed_none c.args.list.now s))
+pub loop-entry-init : goal.loop-entry-init
+loop-entry-init c = λ s. rw c.empty-set.ensures (listed_none c.args.list.now s)
 
-pub with-set-requires : goal.with-set-requires
-with-set-requires c = subst (λ (entry : ℕ). entry < set_width) (sym c.byte_at.ensures.0) (c.requires c.loop-i.i c.loop-i-test.true)
-
-pub loop-i-preserved : goal.loop-i-preserved
-loop-i-preserved c =
-    let args = c.args in
-    let loop = c.loop-i in
-    (omega arith, listed_joins args.list.now loop.i c.loop-i-test.true (numeral loop.set) loop.invariant.1 c.byte_at.ensures.0 c.with-set.ensures)
+pub loop-entry-preserved : goal.loop-entry-preserved
+loop-entry-preserved c =
+    let loop = c.loop-entry in
+    listed_joins c.args.list.now loop.entry-index c.loop-entry-test.true (numeral loop.set) loop.invariant refl (c.with-set.ensures ∙ ap (λ (entry : ℕ). with (numeral loop.set) entry) c.from.ensures)
 
 pub returns : goal.returns
 returns c =
-    let args = c.args in
-    listed_all args.list.now c.loop-i.i (omega arith) (numeral c.loop-i.set) c.loop-i.invariant.1
+    let loop = c.loop-entry in
+    listed_all c.args.list.now loop.entry-index (omega (arith, c.loop-entry-test.false)) (numeral loop.set) loop.invariant

@@ -9,6 +9,3 @@ use Rattle.code_sheets.proofs.rows.read_rows.Given as goal
 
 abbrev pub invariant-loop-s : goal.invariant-loop-s
 invariant-loop-s l = (l.s ≤ l.symbols) × (numerals l.rows ≡ stored_to (tabulate l.symbols (row_in l.sheet)) l.s)
-
-abbrev pub decreases-loop-s : goal.decreases-loop-s
-decreases-loop-s l = l.symbols - l.s

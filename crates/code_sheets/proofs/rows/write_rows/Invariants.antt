@@ -9,6 +9,3 @@ use Rattle.code_sheets.proofs.rows.write_rows.Given as goal
 
 abbrev pub invariant-loop-symbol : goal.invariant-loop-symbol
 invariant-loop-symbol l = (l.symbol ≤ l.symbols) × (length l.buffer ≡ length l.initial.buffer) × (l.buffer ≡ from_place 6 (row_bytes (take l.symbol (numerals l.rows))) l.initial.buffer)
-
-abbrev pub decreases-loop-symbol : goal.decreases-loop-symbol
-decreases-loop-symbol l = l.symbols - l.symbol

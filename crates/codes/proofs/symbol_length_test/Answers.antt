@@ -1,5 +1,0 @@
--- `codes::symbol_length_test` meets its contract: the chain of tests is the list of faults. Assumes nothing.
-use Rattle.codes.proofs.symbol_length_test.Goals as goal
-
-pub returns : goal.returns
-returns c = rw (c.or_if-2.ensures, c.or_if.ensures)
