@@ -8,44 +8,20 @@ use codes::Layout;
 fn three_five_or_seven(number: usize) -> bool
     ensures { result ≡ three_five_or_seven number }
 {
-    if number == 3 {
-        return true;
-    }
-    if number == 5 {
-        return true;
-    }
-    number == 7
+    matches!(number, 3 | 5 | 7)
 }
 
 // k and r may be any numbers: n and r are held to their limits before N is computed.
 fn single_parity_listed(data_disks: usize, rows: usize) -> bool
     ensures { result ≡ listed (Family.SingleParity data_disks rows) }
 {
-    if data_disks < 1 {
-        return false;
-    }
-    if rows < 1 {
-        return false;
-    }
-    if 63 < data_disks {
-        return false;
-    }
-    if 32 < rows {
-        return false;
-    }
-    (data_disks + 1) * rows <= 64
+    matches!(data_disks, 1..=63) && matches!(rows, 1..=32) && (data_disks + 1) * rows <= 64
 }
 
 fn liberation_listed(w: usize, data_disks: usize) -> bool
     ensures { result ≡ listed (Family.Liberation w data_disks) }
 {
-    if !three_five_or_seven(w) {
-        return false;
-    }
-    if data_disks < 2 {
-        return false;
-    }
-    data_disks <= w
+    three_five_or_seven(w) && 2 <= data_disks && data_disks <= w
 }
 
 // Whether the parameters are listed, and n, r and N are within their limits.
@@ -55,8 +31,7 @@ pub fn is_listed(family: Family) -> bool
     match family {
         Family::SingleParity { data_disks, rows } => single_parity_listed(data_disks, rows),
         Family::Liberation { w, data_disks } => liberation_listed(w, data_disks),
-        Family::RowDiagonal { p } => three_five_or_seven(p),
-        Family::EvenOdd { p } => three_five_or_seven(p),
+        Family::RowDiagonal { p } | Family::EvenOdd { p } => three_five_or_seven(p),
     }
 }
 
@@ -66,11 +41,7 @@ pub fn data_disks_of(family: Family) -> usize
     ensures { result ≡ data_disks family }
 {
     match family {
-        Family::SingleParity {
-            data_disks,
-            rows: _,
-        } => data_disks,
-        Family::Liberation { w: _, data_disks } => data_disks,
+        Family::SingleParity { data_disks, .. } | Family::Liberation { data_disks, .. } => data_disks,
         Family::RowDiagonal { p } => p - 1,
         Family::EvenOdd { p } => p,
     }
@@ -82,13 +53,9 @@ fn height_of(family: Family) -> usize
     ensures { result ≡ family_height family }
 {
     match family {
-        Family::SingleParity {
-            data_disks: _,
-            rows,
-        } => rows,
-        Family::Liberation { w, data_disks: _ } => w,
-        Family::RowDiagonal { p } => p - 1,
-        Family::EvenOdd { p } => p - 1,
+        Family::SingleParity { rows, .. } => rows,
+        Family::Liberation { w, .. } => w,
+        Family::RowDiagonal { p } | Family::EvenOdd { p } => p - 1,
     }
 }
 
@@ -97,16 +64,8 @@ fn parity_disks_of(family: Family) -> usize
     ensures { result ≡ parity_disks family }
 {
     match family {
-        Family::SingleParity {
-            data_disks: _,
-            rows: _,
-        } => 1,
-        Family::Liberation {
-            w: _,
-            data_disks: _,
-        } => 2,
-        Family::RowDiagonal { p: _ } => 2,
-        Family::EvenOdd { p: _ } => 2,
+        Family::SingleParity { .. } => 1,
+        Family::Liberation { .. } | Family::RowDiagonal { .. } | Family::EvenOdd { .. } => 2,
     }
 }
 

@@ -66,12 +66,8 @@ pub fn entry_of(family: Family, parity: usize, row: usize, disk: usize) -> BitSe
         return identity_row(family, disk, row);
     }
     match family {
-        Family::SingleParity {
-            data_disks: _,
-            rows: _,
-        } => empty(),
-        Family::Liberation { w, data_disks: _ } => liberation_entry(family, w, row, disk),
-        Family::RowDiagonal { p } => diagonal_entry(family, p, row, disk),
-        Family::EvenOdd { p } => diagonal_entry(family, p, row, disk),
+        Family::SingleParity { .. } => empty(),
+        Family::Liberation { w, .. } => liberation_entry(family, w, row, disk),
+        Family::RowDiagonal { p } | Family::EvenOdd { p } => diagonal_entry(family, p, row, disk),
     }
 }

@@ -21,11 +21,8 @@ fn data_sum(family: Family, parity: usize, row: usize) -> BitSet
 {
     let disks = data_disks_of(family);
     let mut total = empty();
-    let mut disk = 0;
-    while disk < disks {
-        let next = entry_of(family, parity, row, disk);
-        total = sum(total, next);
-        disk += 1;
+    for disk in 0..disks {
+        total = sum(total, entry_of(family, parity, row, disk));
     }
     total
 }
@@ -64,14 +61,8 @@ fn parity_row(family: Family, parity: usize, row: usize) -> BitSet
         return data_sum(family, 0, row);
     }
     match family {
-        Family::SingleParity {
-            data_disks: _,
-            rows: _,
-        } => empty(),
-        Family::Liberation {
-            w: _,
-            data_disks: _,
-        } => data_sum(family, 1, row),
+        Family::SingleParity { .. } => empty(),
+        Family::Liberation { .. } => data_sum(family, 1, row),
         Family::RowDiagonal { p } => row_diagonal_q(p, row),
         Family::EvenOdd { p } => even_odd_q(p, row),
     }
@@ -101,10 +92,8 @@ pub fn code_of(family: Family) -> Code
     let symbols = layout.symbols();
     let data_symbols = layout.first_symbol(data_disks_of(family));
     let mut rows = empty_sets();
-    let mut symbol = 0;
-    while symbol < symbols {
+    for symbol in 0..symbols {
         rows[symbol] = row_of(family, symbol);
-        symbol += 1;
     }
     Code {
         layout,

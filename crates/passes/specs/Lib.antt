@@ -1,2 +1,2 @@
-pub mod InnerSources
 pub mod InnerSums
+pub mod InnerStarts

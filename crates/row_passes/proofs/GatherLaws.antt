@@ -12,11 +12,10 @@ use Rattle.bits.specs.Numerals.{set_width}
 use Rattle.bits.proofs.SearchLaws.{first_from_none, first_from_found, first_from_holds, first_from_between, none_before_first_from}
 use Rattle.gf2.specs.Stripes.{symbol, xor_bytes, encoded_symbol}
 use Rattle.gf2.proofs.SymbolLaws.{symbol_ends_within}
-use Rattle.passes.specs.InnerSources.{listed, no_sources, with_source}
 use Rattle.passes.specs.InnerSums.{summed_parts, summed, EachWithin}
-use Rattle.passes.specs.declared.Sources.{Sources}
-use Rattle.passes.proofs.SourceLaws.{listed_with, none_below, with_below}
-use Rattle.row_passes.specs.InnerPasses.{DataSymbolFits, PassFits, Gathers}
+use Rattle.std.specs.List.{All}
+use Rattle.passes.proofs.SumLaws.{all_members}
+use Rattle.row_passes.specs.InnerPasses.{DataSymbolFits, Gathers}
 
 -- ------------------------------------------------------------------
 -- The symbols of a set, rising
@@ -130,60 +129,45 @@ module _ (row K : ℕ) where
   -- Gathered for a pass
 
   -- Nothing yet
-  pub gathers_none : (first from next : ℕ) (sources : Sources) → first < K → sources ≡ no_sources first → NextOf from next → Gathers row K from sources next
-  gathers_none first from next sources h none found =
-      subst⁻¹ (λ (held : Sources). Gathers row K from held next) none
-      (record {
-        few = omega arith;
-        places_below = none_below K first h;
-        next_from = found.next_from;
-        next_to = found.next_to;
-        next_taken = found.next_taken;
-        rising = found.from_next;
-      })
+  pub gathers_none : (from next : ℕ) (sources : List ℕ) → sources ≡ [] → NextOf from next → Gathers row K from sources next
+  gathers_none from next sources none found =
+      subst⁻¹ (λ (held : List ℕ). Gathers row K from held next) none
+      (record { next_from = found.next_from; next_to = found.next_to; next_taken = found.next_taken; rising = found.from_next })
 
   -- One more
-  pub gathers_more : (from next further : ℕ) (sources more : Sources) → Gathers row K from sources next → next < K → sources.count < 5
-      → more ≡ with_source sources next → NextOf (next + 1) further → Gathers row K from more further
-  gathers_more from next further sources more so_far h few added found =
-      subst⁻¹ (λ (held : Sources). Gathers row K from held further) added
+  pub gathers_more : (from next further : ℕ) (sources more : List ℕ) → Gathers row K from sources next → next < K
+      → more ≡ sources ++ (next ∷ []) → NextOf (next + 1) further → Gathers row K from more further
+  gathers_more from next further sources more so_far h added found =
+      subst⁻¹ (λ (held : List ℕ). Gathers row K from held further) added
       (record {
-        few = omega arith;
-        places_below = with_below K sources next so_far.places_below h;
         next_from = omega (arith, so_far.next_from, found.next_from);
         next_to = found.next_to;
         next_taken = found.next_taken;
         rising =
             so_far.rising
-            ∙ ap (λ (l : List ℕ). listed sources ++ l) (taken_here next h (so_far.next_taken h) ∙ ap (λ (l : List ℕ). next ∷ l) found.from_next)
-            ∙ sym (append_assoc (listed sources) (next ∷ []) (taken_from further))
-            ∙ ap (λ (l : List ℕ). l ++ taken_from further) (sym (listed_with sources next few));
+            ∙ ap (λ (l : List ℕ). sources ++ l) (taken_here next h (so_far.next_taken h) ∙ ap (λ (l : List ℕ). next ∷ l) found.from_next)
+            ∙ sym (append_assoc sources (next ∷ []) (taken_from further));
       })
 
-  -- What stands at each place lies within the data
-  pub gathered_fit : (L bytes first next : ℕ) (sources : Sources) → K ≤ set_width → first < K → bytes ≡ K * L → Gathers row K (first + 1) sources next
-      → PassFits L bytes first sources
-  gathered_fit L bytes first next sources narrow h e gathers =
-      let below = gathers.places_below in
-      record {
-        few = gathers.few;
-        first_fits = fits first h;
-        a_fits = fits sources.a below.a_below;
-        b_fits = fits sources.b below.b_below;
-        c_fits = fits sources.c below.c_below;
-        d_fits = fits sources.d below.d_below;
-        e_fits = fits sources.e below.e_below;
-      }
-    where
-      fits : (s : ℕ) → s < K → DataSymbolFits L bytes s
-      fits s k = (omega arith, rw e (symbol_ends_within s K L k))
+  -- Each source is a data symbol
+  pub gathered_below : (from next : ℕ) (sources : List ℕ) → from ≤ K → Gathers row K from sources next → (s : ℕ) → Memᴰ s sources → s < K
+  gathered_below from next sources h gathers s m =
+      let all : from + (K - from) ≡ K = omega arith in
+      omega (arith, symbols_below (has row) (K - from) from s (subst (Memᴰ s) (sym gathers.rising) (Memᴰ.append_left (taken_from next) m)))
+
+  -- and lies within the data
+  pub gathered_within : (L bytes from next : ℕ) (sources : List ℕ) → from ≤ K → bytes ≡ K * L → Gathers row K from sources next → EachWithin L bytes sources
+  gathered_within L bytes from next sources h e gathers s m = rw e (symbol_ends_within s K L (gathered_below from next sources h gathers s m))
+
+  -- A data symbol fits the data
+  pub symbol_fits_data : (L bytes s : ℕ) → K ≤ set_width → bytes ≡ K * L → s < K → DataSymbolFits L bytes s
+  symbol_fits_data L bytes s narrow e h = (omega arith, rw e (symbol_ends_within s K L h))
 
   -- and so do the sources
-  pub gathered_within : (L bytes from next : ℕ) (sources : Sources) → from ≤ K → bytes ≡ K * L → Gathers row K from sources next → EachWithin L bytes (listed sources)
-  gathered_within L bytes from next sources h e gathers s m =
-      let all : from + (K - from) ≡ K = omega arith in
-      let s-below = symbols_below (has row) (K - from) from s (subst (Memᴰ s) (sym gathers.rising) (Memᴰ.append_left (taken_from next) m)) in
-      rw e (symbol_ends_within s K L (omega arith))
+  pub gathered_fit : (L bytes from next : ℕ) (sources : List ℕ) → K ≤ set_width → from ≤ K → bytes ≡ K * L → Gathers row K from sources next
+      → All (DataSymbolFits L bytes) sources
+  gathered_fit L bytes from next sources narrow h e gathers =
+      all_members (DataSymbolFits L bytes) sources (λ s m. symbol_fits_data L bytes s narrow e (gathered_below from next sources h gathers s m))
 
 -- ------------------------------------------------------------------
 -- The sum of them all

@@ -11,27 +11,10 @@ use Rattle.bits.specs.BitSets.{has}
 use Rattle.bits.specs.Lists.{symbols_in}
 use Rattle.gf2.specs.Stripes.{symbol, SymbolWithin, xor_bytes, encoded_symbol}
 use Rattle.gf2.proofs.SymbolLaws.{length_symbol, length_xor_bytes, get_or_xor_bytes, equal_if_bytes_equal, symbol_fits}
-use Rattle.passes.specs.InnerSources.{listed}
 use Rattle.passes.specs.InnerSums.{summed_parts, summed}
-use Rattle.passes.specs.declared.Sources.{Sources}
 use Rattle.passes.proofs.SumLaws.{length_added, length_summed, summed_append}
-use Rattle.row_passes.specs.InnerPasses.{DataSymbolFits, PassFits, Gathers}
+use Rattle.row_passes.specs.InnerPasses.{Gathers}
 use Rattle.row_passes.proofs.GatherLaws.{taken_from, taken_behind, taken_here, NextOf, gathered_within, summed_first, taken_sum}
-
--- ------------------------------------------------------------------
--- What a pass hands on
-
--- The parts that are data symbols at the places of a pass have as many bytes as the target
-pub parts_as_long : (L : ℕ) (bytes target : List ℕ) (first : ℕ) (sources : Sources) → PassFits L (length bytes) first sources → length target ≡ L
-    → {begun a b c d e : List ℕ} → begun ≡ symbol L bytes first → a ≡ symbol L bytes sources.a → b ≡ symbol L bytes sources.b
-    → c ≡ symbol L bytes sources.c → d ≡ symbol L bytes sources.d → e ≡ symbol L bytes sources.e
-    → (sources.count ≤ 5) × (length begun ≡ length target) × (length a ≡ length target) × (length b ≡ length target) × (length c ≡ length target)
-    × (length d ≡ length target) × (length e ≡ length target)
-parts_as_long L bytes target first sources fits whole begun_is a_is b-is c_is d_is e_is =
-    (fits.few, as_long first fits.first_fits begun_is, as_long _ fits.a_fits a_is, as_long _ fits.b_fits b-is, as_long _ fits.c_fits c_is, as_long _ fits.d_fits d_is, as_long _ fits.e_fits e_is)
-  where
-    as_long : (s : ℕ) {part : List ℕ} → DataSymbolFits L (length bytes) s → part ≡ symbol L bytes s → length part ≡ length target
-    as_long s fit e = ap length e ∙ length_symbol L bytes s fit.1 ∙ sym whole
 
 -- ------------------------------------------------------------------
 -- Pass after pass
@@ -61,22 +44,22 @@ module _ (row K L : ℕ) (bytes : List ℕ) (whole : length bytes ≡ K * L) whe
   unfolding summed_parts
   none_taken next found behind = sym (ap (summed L bytes (replicate L 0)) (found.from_next ∙ taken_behind row K next (omega arith))) ∙ from_zeros
 
-  module _ (first next : ℕ) (sources : Sources) (h : first < K) (gathers : Gathers row K (first + 1) sources next) where
+  module _ (first next : ℕ) (sources : List ℕ) (h : first < K) (gathers : Gathers row K (first + 1) sources next) where
     fits : SymbolWithin L (length bytes) first
     fits = symbol_fits L K bytes first whole h
 
     -- A pass over a target that some bytes and the first stand for: they, the first and the sources are summed
     passed : (start : List ℕ) → length start ≡ L → has row first ≡ true → summed L bytes start (taken_from row K first) ≡ encoded_symbol L bytes row K
-        → SummedTo row K L bytes (summed L bytes (xor_bytes start (symbol L bytes first)) (listed sources)) next
+        → SummedTo row K L bytes (summed L bytes (xor_bytes start (symbol L bytes first)) sources) next
     passed start start_length here completes =
         record {
           next_to = gathers.next_to;
           next_taken = gathers.next_taken;
           size_kept =
-              length_summed L bytes (xor_bytes start (symbol L bytes first)) (listed sources) (length_added L bytes start first start_length fits)
+              length_summed L bytes (xor_bytes start (symbol L bytes first)) sources (length_added L bytes start first start_length fits)
               (gathered_within row K L (length bytes) (first + 1) next sources (omega arith) whole gathers);
           completes =
-              sym (summed_append L bytes (xor_bytes start (symbol L bytes first)) (listed sources) (taken_from row K next))
+              sym (summed_append L bytes (xor_bytes start (symbol L bytes first)) sources (taken_from row K next))
               ∙ ap (summed L bytes (xor_bytes start (symbol L bytes first))) (sym gathers.rising)
               ∙ sym (summed_first L bytes start first (taken_from row K (first + 1)))
               ∙ sym (ap (summed L bytes start) (taken_here row K first h here))
@@ -84,15 +67,15 @@ module _ (row K L : ℕ) (bytes : List ℕ) (whole : length bytes ≡ K * L) whe
         }
 
     -- The first pass: the first symbol copied
-    pub first_pass : NextOf row K 0 first → (target : List ℕ) → target ≡ summed L bytes (symbol L bytes first) (listed sources) → SummedTo row K L bytes target next
+    pub first_pass : NextOf row K 0 first → (target : List ℕ) → target ≡ summed L bytes (symbol L bytes first) sources → SummedTo row K L bytes target next
     first_pass found target e =
-        let begun : target ≡ summed L bytes (xor_bytes (replicate L 0) (symbol L bytes first)) (listed sources) =
-        e ∙ ap (λ (l : List ℕ). summed L bytes l (listed sources)) (sym (zeros_added L (symbol L bytes first) (length_symbol L bytes first fits))) in
+        let begun : target ≡ summed L bytes (xor_bytes (replicate L 0) (symbol L bytes first)) sources =
+        e ∙ ap (λ (l : List ℕ). summed L bytes l sources) (sym (zeros_added L (symbol L bytes first) (length_symbol L bytes first fits))) in
         subst⁻¹ (λ (l : List ℕ). SummedTo row K L bytes l next) begun
         (passed (replicate L 0) (length-replicate L 0) (found.next_taken h) (ap (summed L bytes (replicate L 0)) (sym found.from_next) ∙ from_zeros))
 
     -- A pass more: the first symbol added
-    pub next_pass : (before : List ℕ) → SummedTo row K L bytes before first → (target : List ℕ) → target ≡ summed L bytes (xor_bytes before (symbol L bytes first)) (listed sources)
+    pub next_pass : (before : List ℕ) → SummedTo row K L bytes before first → (target : List ℕ) → target ≡ summed L bytes (xor_bytes before (symbol L bytes first)) sources
         → SummedTo row K L bytes target next
     next_pass before so_far target e = subst⁻¹ (λ (l : List ℕ). SummedTo row K L bytes l next) e (passed before so_far.size_kept (so_far.next_taken h) so_far.completes)
 

@@ -6,14 +6,14 @@ use Prim.Native.Nat.{ℕ, suc, ◌+◌, ◌*◌, ◌≤◌, ◌<◌}
 use native.Mathlib.Decide.{dec_lt}
 use native.Mathlib.Nat.{mul-le-mul_right}
 use native.Mathlib.Omega.{arith}
-use lib.Bits.{bit_xor}
-use lib.ListN.{length, get_or, set, take, drop, replicate, length-replicate, get_or-replicate}
+use lib.ListN.{length, get_or, set, take, drop}
 use lib.Seq.{paste}
 use Rattle.bits.proofs.StoreLaws.{stored_more, stored_all, stored_before, stored_behind}
-use Rattle.gf2.specs.Stripes.{symbol, SymbolWithin, xor_bytes, put_symbol}
-use Rattle.gf2.proofs.SymbolLaws.{length_symbol, get_or_symbol, get_or_xor_bytes}
+use Rattle.gf2.specs.Stripes.{symbol, SymbolWithin, put_symbol}
+use Rattle.gf2.proofs.SymbolLaws.{length_symbol, get_or_symbol}
 use Rattle.passes.specs.InnerSums.{summed, EachWithin, summed_byte, part_bytes, symbol_bytes}
-use Rattle.passes.proofs.SumLaws.{length_added, symbols_whole, length_summed, get_or_summed_parts}
+use Rattle.passes.specs.InnerStarts.{Starts}
+use Rattle.passes.proofs.SumLaws.{symbols_whole, length_summed, get_or_summed_parts}
 
 -- The stripe with the first `done` bytes of the symbol replaced by the new ones
 abbrev pub symbol_to : ℕ → List ℕ → ℕ → List ℕ → ℕ → List ℕ
@@ -54,87 +54,30 @@ bytes_unread L stripe now i same [] = refl
 bytes_unread L stripe now i same (s ∷ sources) = ap₂ ◌∷◌ (same s) (bytes_unread L stripe now i same sources)
 
 module _ (L : ℕ) (old : List ℕ) (t : ℕ) (t_fits : SymbolWithin L (length old) t) (sources : List ℕ) (within : EachWithin L (length old) sources)
-    (start : List ℕ) (start_length : length start ≡ L) where
-  -- What a pass leaves of the target where it begins with `start`
+    (makes : ℕ → ℕ → ℕ → Type 0) (source : ℕ) (start : List ℕ) (starts : Starts makes (symbol L old t) (symbol L old source) start) where
+  -- What a pass leaves of the target
   abbrev total : List ℕ
   total = summed L old start sources
+
+  start_length : length start ≡ L
+  start_length = starts.whole ∙ length_symbol L old t t_fits
 
   -- It has L bytes
   length_total : length total ≡ L
   length_total = length_summed L old start sources start_length within
 
   -- One more byte summed
-  sum_more : (now : List ℕ) (i first x : ℕ) → i < L → now ≡ symbol_to L old t total i → first ≡ get_or start i 0
-      → x ≡ summed_byte first (symbol_bytes L now i sources) → set now (t * L + i) x ≡ symbol_to L old t total (i + 1)
-  sum_more now i first x h e first_is x-is =
+  pub sum_more : (now : List ℕ) (i own other first x : ℕ) → i < L → now ≡ symbol_to L old t total i → own ≡ get_or now (t * L + i) 0
+      → other ≡ get_or now (source * L + i) 0 → makes own other first → x ≡ summed_byte first (symbol_bytes L now i sources)
+      → set now (t * L + i) x ≡ symbol_to L old t total (i + 1)
+  sum_more now i own other first x h e own_is other_is made x_is =
+      let kept = λ (s : ℕ). next_byte_kept L old t total t_fits length_total i h now s e in
+      let inside : i < length (symbol L old t) = omega (arith, length_symbol L old t t_fits) in
+      let first_is = starts.each i first inside (rw (sym (kept t), sym own_is, sym (kept source), sym other_is) made) in
       symbol_to_more L old t total t_fits length_total now i x h e
-      (x-is ∙ ap₂ summed_byte first_is (bytes_unread L old now i (λ s. next_byte_kept L old t total t_fits length_total i h now s e) sources)
+      (x_is ∙ ap₂ summed_byte first_is (bytes_unread L old now i kept sources)
       ∙ get_or_summed_parts L i start (map (symbol L old) sources) start_length (symbols_whole L old sources within))
 
-  -- All bytes summed
-  sum_all : (now : List ℕ) (i : ℕ) → i ≡ L → now ≡ symbol_to L old t total i → now ≡ put_symbol L old t total
-  sum_all = symbol_to_all L old t total t_fits length_total
-
-  -- A symbol's next byte before it is summed
-  pub unsummed : (i : ℕ) → i < L → (now : List ℕ) (s : ℕ) → now ≡ symbol_to L old t total i → get_or now (s * L + i) 0 ≡ get_or (symbol L old s) i 0
-  unsummed = next_byte_kept L old t total t_fits length_total
-
--- ------------------------------------------------------------------
--- The three loops
-
-module _ (L : ℕ) (old : List ℕ) (t : ℕ) (t_fits : SymbolWithin L (length old) t) (sources : List ℕ) (within : EachWithin L (length old) sources) where
-  -- What is left of a target that is cleared first
-  abbrev pub cleared_total : List ℕ
-  cleared_total = summed L old (replicate L 0) sources
-
-  -- One more byte
-  pub cleared_more : (now : List ℕ) (i x : ℕ) → i < L → now ≡ symbol_to L old t cleared_total i → x ≡ summed_byte 0 (symbol_bytes L now i sources)
-      → set now (t * L + i) x ≡ symbol_to L old t cleared_total (i + 1)
-  cleared_more now i x h e = sum_more L old t t_fits sources within (replicate L 0) (length-replicate L 0) now i 0 x h e (sym (get_or-replicate L i 0 0 h))
-
   -- All bytes
-  pub cleared_all : (now : List ℕ) (i : ℕ) → i ≡ L → now ≡ symbol_to L old t cleared_total i → now ≡ put_symbol L old t cleared_total
-  cleared_all = sum_all L old t t_fits sources within (replicate L 0) (length-replicate L 0)
-
-  module _ (s : ℕ) (s_fits : SymbolWithin L (length old) s) where
-    -- What is left of a target that a symbol is copied to first
-    abbrev pub copied_total : List ℕ
-    copied_total = summed L old (symbol L old s) sources
-
-    -- One more byte
-    pub copied_more : (now : List ℕ) (i first x : ℕ) → i < L → now ≡ symbol_to L old t copied_total i → first ≡ get_or now (s * L + i) 0
-        → x ≡ summed_byte first (symbol_bytes L now i sources) → set now (t * L + i) x ≡ symbol_to L old t copied_total (i + 1)
-    copied_more now i first x h e first_is =
-        let source_length = length_symbol L old s s_fits in
-        sum_more L old t t_fits sources within (symbol L old s) source_length now i first x h e
-        (first_is ∙ unsummed L old t t_fits sources within (symbol L old s) source_length i h now s e)
-
-    -- All bytes
-    pub copied_all : (now : List ℕ) (i : ℕ) → i ≡ L → now ≡ symbol_to L old t copied_total i → now ≡ put_symbol L old t copied_total
-    copied_all = sum_all L old t t_fits sources within (symbol L old s) (length_symbol L old s s_fits)
-
-    -- Target XOR symbol
-    abbrev both : List ℕ
-    both = xor_bytes (symbol L old t) (symbol L old s)
-
-    -- It has L bytes
-    length_both : length both ≡ L
-    length_both = length_added L old (symbol L old t) s (length_symbol L old t t_fits) s_fits
-
-    -- What is left of a target that a symbol is added to first
-    abbrev pub added_total : List ℕ
-    added_total = summed L old both sources
-
-    -- One more byte
-    pub added_more : (now : List ℕ) (i own other x : ℕ) → i < L → now ≡ symbol_to L old t added_total i → own ≡ get_or now (t * L + i) 0
-        → other ≡ get_or now (s * L + i) 0 → x ≡ summed_byte (bit_xor own other) (symbol_bytes L now i sources)
-        → set now (t * L + i) x ≡ symbol_to L old t added_total (i + 1)
-    added_more now i own other x h e own_is other_is =
-        let kept = unsummed L old t t_fits sources within both length_both i h now in
-        sum_more L old t t_fits sources within both length_both now i _ x h e
-        (ap₂ bit_xor (own_is ∙ kept t e) (other_is ∙ kept s e)
-        ∙ sym (get_or_xor_bytes (symbol L old t) (symbol L old s) (length_symbol L old t t_fits ∙ sym (length_symbol L old s s_fits)) i))
-
-    -- All bytes
-    pub added_all : (now : List ℕ) (i : ℕ) → i ≡ L → now ≡ symbol_to L old t added_total i → now ≡ put_symbol L old t added_total
-    added_all = sum_all L old t t_fits sources within both length_both
+  pub sum_all : (now : List ℕ) (i : ℕ) → i ≡ L → now ≡ symbol_to L old t total i → now ≡ put_symbol L old t total
+  sum_all = symbol_to_all L old t total t_fits length_total

@@ -1,31 +1,26 @@
--- `part_passes::sum` meets its contract: each number of parts has its sum. Assumes nothing.
-use mathlib.Core.Path.{◌≡◌}
-use native.Mathlib.Omega.{arith}
-use Rattle.passes.specs.InnerSums.{summed_byte}
+-- `part_passes::sum` meets its contract. Assumes nothing.
+use Rattle.std.proofs.Common.{[], ℕ, List, ◌+◌, drop, get_or, sym, ap, ◌∙◌, arith, Bor}
+use Rattle.std.proofs.lemmas.List.{length-map, get_or-map}
+use Rattle.std.specs.Int.Bits.{bit_xor}
+use Rattle.passes.specs.InnerSums.{summed_byte, part_bytes}
+use Rattle.passes.proofs.SumLaws.{summed_byte_next, summed_byte_behind}
+use Rattle.part_passes.proofs.LoopLaws.{lent}
 use Rattle.part_passes.proofs.sum.Goals as goal
 
-pub returns-in-0 : goal.returns-in-0
-unfolding summed_byte
-returns-in-0 c = rw c.in-0.is
+pub loop-part-preserved : goal.loop-part-preserved
+loop-part-preserved c =
+    let now = λ (part : Bor (List ℕ)). part.now in
+    let parts = c.args.parts.now in
+    let i = c.args.i in
+    let here = c.loop-part.part-index in
+    let part_is = get_or-map now parts here (record { ref_ptr = (0, 0); now = [] }) [] (omega arith) in
+    let next =
+    summed_byte_next (λ (part : List ℕ). get_or part i 0) (lent parts) here [] c.loop-part.sum (omega (arith, length-map parts now)) in
+    ap (λ (part : List ℕ). summed_byte (bit_xor c.loop-part.sum (get_or part i 0)) (part_bytes i (drop (here + 1) (lent parts)))) (sym part_is) ∙ sym next ∙ c.loop-part.invariant
 
-pub returns-in-1 : goal.returns-in-1
-unfolding summed_byte
-returns-in-1 c = rw c.in-1.is
-
-pub returns-in-2 : goal.returns-in-2
-unfolding summed_byte
-returns-in-2 c = rw c.in-2.is
-
-pub returns-in-3 : goal.returns-in-3
-unfolding summed_byte
-returns-in-3 c = rw c.in-3.is
-
-pub returns-in-4 : goal.returns-in-4
-unfolding summed_byte
-returns-in-4 c = rw c.in-4.is
-
-pub returns-in_default : goal.returns-in_default
-unfolding summed_byte
-returns-in_default c =
-    let five : c.args.count ≡ 5 = omega arith in
-    rw five
+pub returns : goal.returns
+returns c =
+    let parts = c.args.parts.now in
+    sym (summed_byte_behind (λ (part : List ℕ). get_or part c.args.i 0) (lent parts) c.loop-part.part-index c.loop-part.sum
+    (omega (arith, length-map parts (λ (part : Bor (List ℕ)). part.now))))
+    ∙ c.loop-part.invariant

@@ -2,6 +2,7 @@
 use mathlib.Core.Path.{◌≡◌, ap, ◌∙◌, subst}
 use Prim.Native.Nat.{◌+◌}
 use native.Mathlib.Omega.{arith}
+use lib.ListN.{length}
 use Rattle.plan_sheets.specs.PlanSheets.{step_of}
 use Rattle.stripes.proofs.PassLaws.{taken_behind_step}
 use Rattle.stripes.proofs.RunLaws.{Remaining, remaining_all, next_fits, sources_within, remaining_pass, remaining_none}
@@ -27,9 +28,8 @@ do_pass-requires c =
     let decoded = c.decoded in
     let read = decoded.ensures ∙ ap step_of step.ensures in (
       next_fits args.size args.steps.now args.count args.stripe.now loop.stripe loop.number (omega arith) loop.invariant decoded.result read,
-      sources.ensures.few,
       sources_within args.size args.steps.now args.count args.stripe.now loop.stripe loop.number (omega arith) loop.invariant decoded.result read _ _
-          (taken_behind_step args.steps.now args.count (loop.number + 1) step.result decoded.result _ _ decoded.ensures sources.ensures.taken),
+          (taken_behind_step args.steps.now args.count (loop.number + 1) step.result decoded.result _ _ decoded.ensures sources.ensures),
     )
 
 pub loop-number-preserved : goal.loop-number-preserved
@@ -39,11 +39,11 @@ loop-number-preserved c =
     let step = c.step_at-step in
     let sources = c.sources_next-sources in
     let decoded = c.decoded in
-    let next : loop.number + 1 + sources.result.count ≡ loop.number + (1 + sources.result.count) = omega arith in
+    let next : loop.number + 1 + length sources.result.items ≡ loop.number + (1 + c.len.result) = omega (arith, c.len.ensures.value) in
     subst (Remaining args.size args.steps.now args.count args.stripe.now _) next
     (remaining_pass args.size args.steps.now args.count args.stripe.now loop.stripe loop.number (omega arith) loop.invariant decoded.result
     (decoded.ensures ∙ ap step_of step.ensures) _ _
-    (taken_behind_step args.steps.now args.count (loop.number + 1) step.result decoded.result _ _ decoded.ensures sources.ensures.taken)
+    (taken_behind_step args.steps.now args.count (loop.number + 1) step.result decoded.result _ _ decoded.ensures sources.ensures)
     _ c.do_pass.ensures)
 
 pub returns : goal.returns

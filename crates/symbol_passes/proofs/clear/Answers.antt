@@ -1,36 +1,11 @@
--- `symbol_passes::clear` meets its contract. Assumes nothing.
-use Prim.Native.Nat.{ℕ, ◌*◌}
-use mathlib.Core.Path.{refl, subst⁻¹}
-use native.Mathlib.Omega.{arith}
-use lib.ListN.{length-set, replicate}
-use lib.Seq.{paste-zero}
-use Rattle.passes.specs.InnerSources.{listed}
-use Rattle.passes.specs.InnerSums.{summed, EachWithin}
-use Rattle.symbol_passes.proofs.LoopLaws.{cleared_more, cleared_all}
+-- `symbol_passes::clear` meets its contract: the pass begins with zero bytes. Assumes nothing.
+use Rattle.std.proofs.Common.{replicate, rules}
+use Rattle.gf2.proofs.SymbolLaws.{length_symbol}
+use Rattle.passes.proofs.StartLaws.{starts_zeros}
 use Rattle.symbol_passes.proofs.clear.Goals as goal
-
-pub loop-i-init : goal.loop-i-init
-loop-i-init c =
-    let args = c.args in
-    (omega arith, refl, paste-zero args.stripe.now (args.target * args.size) (summed args.size args.stripe.now (replicate args.size 0) (listed args.sources)))
-
-pub sum-requires : goal.sum-requires
-sum-requires c =
-    let loop = c.loop-i in
-    (c.requires.1, subst⁻¹ (λ (n : ℕ). EachWithin c.args.size n (listed c.args.sources)) loop.invariant.1 c.requires.2, omega arith)
-
-pub loop-i-preserved : goal.loop-i-preserved
-loop-i-preserved c =
-    let args = c.args in
-    let loop = c.loop-i in (
-      omega arith,
-      simp length-set (omega arith),
-      cleared_more args.size args.stripe.now args.target (omega arith) (listed args.sources) c.requires.2 loop.stripe loop.i
-          c.sum.result (omega arith) loop.invariant.2 c.sum.ensures,
-    )
 
 pub returns : goal.returns
 returns c =
     let args = c.args in
-    let loop = c.loop-i in
-    cleared_all args.size args.stripe.now args.target (omega arith) (listed args.sources) c.requires.2 loop.stripe loop.i (omega arith) loop.invariant.2
+    let whole = length_symbol args.size args.stripe.now args.target c.requires.target_within in
+    c.pass_with.ensures (replicate args.size 0) (starts_zeros _ _ _ args.size whole (λ own other byte made. search rules))
