@@ -17,7 +17,7 @@ use Rattle.bits.specs.BitSets.{has}
 use Rattle.bits.specs.Numerals.{set_width}
 use Rattle.refusals.specs.Orders.{Fault, or_if, and_then, first_of, if_fine, Outcome, Fine, Refused}
 use Rattle.refusals.specs.Refusals.{Numbered, ◌at◌}
-use Rattle.refusals.proofs.OrderLaws.{refusal_stands, fine_means_none_holds}
+use Rattle.refusals.proofs.OrderLaws.{refusal_stands, refused_is_not_fine, fine_means_none_holds}
 use Rattle.code_limits.specs.CodeLimits.{stray_at, first_stray, stray_fault}
 use Rattle.code_sheets.specs.CodeSheets.{sheet_length, row_in, code_in}
 use Rattle.code_sheets.specs.CodeReading.{head_faults, code_verdict, CodeRead, reading}
@@ -246,6 +246,15 @@ code_within_limits sheet bytes e = subst WithinLimits (sym (reading_code sheet e
 
 -- ------------------------------------------------------------------
 -- What a caller has read
+
+-- What `read_code` promises of its answer: it is the reading, and within the limits where nothing is refused
+abbrev pub ReadFrom : List ℕ → CodeRead → Type 0
+ReadFrom sheet read = (read ≡ reading sheet) × (read.verdict ≡ Fine → WithinLimits read.code)
+
+-- A refused sheet has no code, and so none beyond the limits
+pub from_refused : (sheet : List ℕ) {refusal : Numbered} → record { verdict = Refused refusal; code = no_code } ≡ reading sheet
+    → ReadFrom sheet (record { verdict = Refused refusal; code = no_code })
+from_refused sheet e = (e, λ fine. absurd (refused_is_not_fine fine))
 
 module _ (sheet : List ℕ) where
   -- A code that was read is the sheet's, and nothing is refused of it

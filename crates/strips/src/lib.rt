@@ -2,16 +2,16 @@
 #![tactic(auto)]
 
 ghost use Rattle.std.specs.Prelude.{◌≡◌, ◌≤◌, ◌<◌, length};
-ghost use Rattle.refusals.specs.Orders.{Fine, outcome, and_then};
+ghost use Rattle.refusals.specs.Orders.{Fine, outcome, first_of};
 ghost use Rattle.strips.specs.Strips.{strip_faults, strip_verdict, strip_shown};
 ghost use Rattle.strips.specs.Places.{nowhere, strip_place, Shows, beginning};
 
 use code_sheets::read_code;
-use codes::{Layout, stripe_test};
-use refusals::{Refusal, Verdict};
+use codes::{Code, stripe_test};
+use refusals::{Refusal, Verdict, refuse_if};
 
 // Where a part lies: in the spare strip or in the stripe, from which byte on, and how many bytes.
-#[derive(Clone, Copy)]
+#[derive(Clone, Copy, Debug, PartialEq, Eq)]
 pub struct Part {
     pub in_spare: bool,
     pub start: usize,
@@ -29,29 +29,20 @@ pub fn nowhere() -> Part
     }
 }
 
-// The order 7, 31, 32 behind the verdict on the code sheet.
-pub fn strip_test(read: Verdict, layout: Layout, disk: usize, size: usize, bytes: usize) -> Verdict
-    requires { (layout.disks ≤ 255) × (layout.height ≤ 255) }
-    ensures { outcome result ≡ and_then (outcome read) (strip_faults layout disk size bytes) }
+// 7, 31, 32.
+pub fn strip_test(code: &Code, disk: usize, size: usize, bytes: usize) -> Verdict
+    ensures { outcome result ≡ first_of (strip_faults code.now.layout disk size bytes) }
 {
-    let symbols = layout.symbols();
-    stripe_test(
-        read.or_if(layout.disks <= disk, Refusal::NoSuchDisk),
-        symbols,
-        size,
-        bytes,
-    )
+    refuse_if(code.layout.disks <= disk, Refusal::NoSuchDisk)?;
+    stripe_test(code.layout.symbols(), size, bytes)
 }
 
 // Twin of `strip`: why it shows nothing, or that it shows the strip.
 pub fn strip_verdict(sheet: &[u8], disk: usize, size: usize, stripe: &[u8]) -> Verdict
     ensures answer { outcome result ≡ strip_verdict sheet.now disk size (length stripe.now) }
 {
-    let reading = read_code(sheet);
-    let read = reading.verdict;
-    let code = reading.code;
-    let layout = code.layout;
-    strip_test(read, layout, disk, size, stripe.len())
+    let code = read_code(sheet)?;
+    strip_test(&code, disk, size, stripe.len())
 }
 
 // Where the strip of a disk lies in the stripe; a part of no bytes where `strip_verdict` refuses, and only there.
@@ -59,14 +50,13 @@ pub fn strip_place(sheet: &[u8], disk: usize, size: usize, stripe: &[u8]) -> Par
     ensures answer { result ≡ strip_place sheet.now disk size (length stripe.now) }
     ensures shows { Shows result stripe.now (strip_shown sheet.now disk size stripe.now) (strip_verdict sheet.now disk size (length stripe.now)) }
 {
-    let reading = read_code(sheet);
-    let read = reading.verdict;
-    let code = reading.code;
-    let layout = code.layout;
-    let verdict = strip_test(read, layout, disk, size, stripe.len());
-    let Verdict::Fine = verdict else {
+    let Ok(code) = read_code(sheet) else {
         return nowhere();
     };
+    let Ok(()) = strip_test(&code, disk, size, stripe.len()) else {
+        return nowhere();
+    };
+    let layout = code.layout;
     Part {
         in_spare: false,
         start: layout.first_symbol(disk) * size,

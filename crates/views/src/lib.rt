@@ -3,35 +3,33 @@
 #![tactic(auto)]
 
 ghost use Rattle.std.specs.Prelude.{◌≡◌, ◌≤◌, ◌<◌, length};
-ghost use Rattle.refusals.specs.Orders.{Fine, outcome, and_then};
+ghost use Rattle.refusals.specs.Orders.{Fine, outcome, first_of};
 ghost use Rattle.strips.specs.Places.{slice_of, Shows, beginning};
 ghost use Rattle.views.specs.Views.{look_up_faults, look_up_verdict, symbol_shown};
 ghost use Rattle.views.specs.Places.{symbol_place};
 
 use code_sheets::read_code;
-use codes::{Layout, is_length};
-use refusals::{Refusal, Verdict};
+use codes::{Code, is_length};
+use refusals::{Refusal, Verdict, refuse_if};
 pub use strips::{Part, strip, strip_place, strip_verdict};
 use strips::{nowhere, strip_test};
 
-// The order 7, 31, 32, 35, 38 behind the verdict on the code sheet.
+// 7, 31, 32, 35, 38.
 fn look_up_test(
-    read: Verdict,
-    layout: Layout,
+    code: &Code,
     disk: usize,
     size: usize,
     bytes: usize,
     spare: usize,
     symbol: usize,
 ) -> Verdict
-    requires { (layout.disks ≤ 255) × (layout.height ≤ 255) }
-    ensures { outcome result ≡ and_then (outcome read) (look_up_faults layout disk size bytes spare symbol) }
+    ensures { outcome result ≡ first_of (look_up_faults code.now.layout disk size bytes spare symbol) }
 {
-    let height = layout.height_of(disk);
-    let symbols = layout.symbols();
-    strip_test(read, layout, disk, size, bytes)
-        .or_if(!is_length(spare, height, size), Refusal::SpareStripLength)
-        .or_if(symbols <= symbol, Refusal::NoSuchSymbol)
+    let layout = code.layout;
+    let whole_spare = is_length(spare, layout.height_of(disk), size);
+    strip_test(code, disk, size, bytes)?;
+    refuse_if(!whole_spare, Refusal::SpareStripLength)?;
+    refuse_if(layout.symbols() <= symbol, Refusal::NoSuchSymbol)
 }
 
 // Twin of `look_up`: why it shows nothing, or that it shows the symbol.
@@ -45,11 +43,8 @@ pub fn look_up_verdict(
 ) -> Verdict
     ensures answer { outcome result ≡ look_up_verdict sheet.now disk size (length stripe.now) (length spare.now) symbol }
 {
-    let reading = read_code(sheet);
-    let read = reading.verdict;
-    let code = reading.code;
-    let layout = code.layout;
-    look_up_test(read, layout, disk, size, stripe.len(), spare.len(), symbol)
+    let code = read_code(sheet)?;
+    look_up_test(&code, disk, size, stripe.len(), spare.len(), symbol)
 }
 
 // Where a symbol is shown: one that survives in the stripe, a lost one in the spare strip; a part of no bytes where
@@ -65,14 +60,13 @@ pub fn symbol_place(
     ensures answer { result ≡ symbol_place sheet.now disk size (length stripe.now) (length spare.now) symbol }
     ensures shows { Shows result (slice_of result stripe.now spare.now) (symbol_shown sheet.now disk size stripe.now spare.now symbol) (look_up_verdict sheet.now disk size (length stripe.now) (length spare.now) symbol) }
 {
-    let reading = read_code(sheet);
-    let read = reading.verdict;
-    let code = reading.code;
-    let layout = code.layout;
-    let verdict = look_up_test(read, layout, disk, size, stripe.len(), spare.len(), symbol);
-    let Verdict::Fine = verdict else {
+    let Ok(code) = read_code(sheet) else {
         return nowhere();
     };
+    let Ok(()) = look_up_test(&code, disk, size, stripe.len(), spare.len(), symbol) else {
+        return nowhere();
+    };
+    let layout = code.layout;
     if layout.disk_of(symbol) == disk {
         let row = symbol - layout.first_symbol(disk);
         return Part {
