@@ -7,12 +7,17 @@ use Rattle.plans.specs.Judgement.{wanted_of, wanted_faults}
 use Rattle.refusals.specs.Orders.{Outcome, Fault, ◌gets◌, and_then}
 use Rattle.refusals.specs.Refusals.{◌at◌}
 use Rattle.code_sheets.specs.CodeReading.{reading}
+use Rattle.plan_requests.specs.declared.PlanRequest.{PlanRequest}
 
 -- What planning is asked: the edition of the sheet, the failed disks, and the list of wanted symbols, which edition 1 does not have
 pub record Asked : Type 0 where
   pub edition : ℕ
   pub disks : List ℕ
   pub wanted : List ℕ
+
+-- What a `PlanRequest` asks
+abbrev pub asked_by : PlanRequest → Asked
+asked_by request = record { edition = request.edition; disks = request.disks.now; wanted = request.wanted.now }
 
 -- One disk without a list, an edition 1 sheet
 abbrev pub whole_disk : ℕ → Asked

@@ -2,79 +2,63 @@
 #![tactic(auto)]
 
 ghost use Rattle.std.specs.Prelude.{◌≡◌, cond, ◌++◌, eqb};
-ghost use Rattle.bits.specs.BitSets.{count};
+ghost use Rattle.bits.specs.BitSets.{has, count};
 ghost use Rattle.bits.specs.Numerals.{numeral};
-ghost use Rattle.codes.specs.Codes.{linear, WithinLimits};
-ghost use Rattle.lists.specs.Lists.{list_order};
+ghost use Rattle.lists.specs.Lists.{list_faults};
 ghost use Rattle.plans.specs.Judgement.{least_wanted};
-ghost use Rattle.refusals.specs.Orders.{Fine, outcome, and_then, first_of};
+ghost use Rattle.refusals.specs.Orders.{outcome, first_of};
 ghost use Rattle.refusals.specs.Refusals.{◌at◌};
-ghost use Rattle.plan_requests.specs.PlanRequests.{least_buffer, room_faults, planning_faults};
+ghost use Rattle.plan_requests.specs.PlanRequests.{asked_by, least_buffer, room_faults, planning_faults};
 
 use bits::BitSet;
-use code_sheets::Reading;
-use lists::{disks_test, first_bad, list_test};
+use codes::Code;
+use lists::{disks_test, wanted_test};
 use losses::bounds::{least_wanted, most_wanted};
 use losses::lost_symbols;
-use refusals::{Refusal, Verdict};
+use refusals::{Refusal, Verdict, refuse_if};
+
+// What planning is asked: the edition of the sheet, the failed disks, and the list of wanted symbols, which edition 1 does not have.
+#[derive(Clone, Copy)]
+pub struct PlanRequest<'a> {
+    pub edition: usize,
+    pub disks: &'a [u8],
+    pub wanted: &'a [u8],
+}
 
 // The least buffer for a sheet of any plan.
 fn least_buffer(edition: usize) -> usize
     ensures { result ≡ least_buffer edition }
 {
-    if edition == 3 {
-        return 3210;
+    match edition {
+        3 => 3210,
+        2 => 3114,
+        _ => 3081,
     }
-    if edition == 2 {
-        return 3114;
-    }
-    3081
 }
 
-// 23, 34: these symbols are lost and so many listed, and the first bad one is at `bad`.
+// 23, 34: these symbols are lost.
 fn list_and_room_test(
     edition: usize,
     gone: BitSet,
-    listed: usize,
-    bad: usize,
+    wanted: &[u8],
     buffer_length: usize,
 ) -> Verdict
-    ensures { outcome result ≡ first_of (list_order listed (least_wanted edition) (cond (eqb edition 1) 0 (count (numeral gone))) bad (23 at 0) (23 at bad) ++ room_faults edition buffer_length) }
+    ensures { outcome result ≡ first_of (list_faults (least_wanted edition) (cond (eqb edition 1) 0 (count (numeral gone))) (has (numeral gone)) wanted.now (λ position. 23 at position) ++ room_faults edition buffer_length) }
 {
-    let by_count = Refusal::BadWantedList { position: 0 };
-    let by_entry = Refusal::BadWantedList { position: bad };
-    let least = least_wanted(edition);
     let most = most_wanted(edition, gone);
-    let room = least_buffer(edition);
-    list_test(Verdict::Fine, listed, least, most, bad, by_count, by_entry).or_if(
-        buffer_length < room,
+    wanted_test(wanted, least_wanted(edition), most, gone)?;
+    refuse_if(
+        buffer_length < least_buffer(edition),
         Refusal::PlanBufferTooShort,
     )
 }
 
-// 7, 24, 23, 34, behind the verdict on the code sheet.
-pub fn plan_test(
-    reading: Reading,
-    edition: usize,
-    disks: &[u8],
-    wanted: &[u8],
-    buffer_length: usize,
-) -> Verdict
-    requires { outcome reading.verdict ≡ Fine → WithinLimits (linear reading.code) }
-    ensures { outcome result ≡ and_then (outcome reading.verdict) (planning_faults reading.code.layout (record { edition = edition; disks = disks.now; wanted = wanted.now }) buffer_length) }
+// 7, 24, 23, 34.
+pub fn plan_test(code: &Code, request: PlanRequest, buffer_length: usize) -> Verdict
+    ensures { outcome result ≡ first_of (planning_faults code.now.layout (asked_by request.entry) buffer_length) }
 {
-    let read = reading.verdict;
-    let Verdict::Fine = read else {
-        return read;
-    };
-    let code = reading.code;
     let layout = code.layout;
-    let array_disks = layout.disks;
-    let asked = disks_test(read, array_disks, array_disks, disks);
-    let Verdict::Fine = asked else {
-        return asked;
-    };
-    let gone = lost_symbols(layout, disks);
-    let bad = first_bad(wanted, gone);
-    list_and_room_test(edition, gone, wanted.len(), bad, buffer_length)
+    disks_test(layout.disks, layout.disks, request.disks)?;
+    let gone = lost_symbols(layout, request.disks);
+    list_and_room_test(request.edition, gone, request.wanted, buffer_length)
 }
