@@ -1,71 +1,70 @@
 -- Laws of back substitution, from the last row to the first. Assumes nothing.
 use mathlib.Core.Path.{◌≡◌, sym, ap, ap₂, ◌∙◌}
 use mathlib.Core.Bool.{true, false}
-use mathlib.Core.List.{List}
-use Prim.Native.Nat.{ℕ, suc, ◌+◌, ◌*◌, ◌^◌, ◌≤◌, ◌<◌}
+use mathlib.Core.List.{List, [], ◌∷◌}
+use Prim.Native.Nat.{ℕ, suc, ◌+◌, ◌*◌, ◌^◌, ◌<◌}
 use native.Mathlib.Nat.{pow-succ', mul-one, zero-mul}
 use native.Mathlib.Omega.{arith}
 use borrow.Author.Tests.{eqb-true}
 use lib.Bits.{bit_xor, xor_zero_r}
 use lib.Dec.{eqb}
-use lib.ListN.{length, get_or, take}
+use lib.ListN.{length, get_or, drop, drop_of_length-le}
+use lib.Seq.{drop-cons}
 use Rattle.bits.specs.BitSets.{with, overlap, scale}
 use Rattle.bits.proofs.OverlapLaws.{even_if_not_odd}
 use Rattle.bits.proofs.SetLaws.{with_lowest}
 use Rattle.gf2.specs.InnerElimination.{reduce_row, back_substitute, residue}
 use Rattle.gf2.proofs.EliminationLaws.{residue_step, residue_of_no_rows}
-use Rattle.elimination.proofs.RowLaws.{rows_from, rows_from_next, rows_from_end}
 
 -- Back substitution has come down to row s: `subset` has the rows from s on that are taken out, and `left` is what they leave
-pub record SubstitutedFrom (symbols : ℕ) (pivots rows : List ℕ) (row s subset left : ℕ) : Type 0 where
-  pub is_subset : subset ≡ back_substitute (rows_from symbols s pivots) (rows_from symbols s rows) row * 2 ^ s
-  pub is_left : left ≡ residue (rows_from symbols s pivots) (rows_from symbols s rows) row
+pub record SubstitutedFrom (pivots rows : List ℕ) (row s subset left : ℕ) : Type 0 where
+  pub is_subset : subset ≡ back_substitute (drop s pivots) (drop s rows) row * 2 ^ s
+  pub is_left : left ≡ residue (drop s pivots) (drop s rows) row
 
-module _ {symbols : ℕ} {pivots rows : List ℕ} (pivots_fit : symbols ≤ length pivots) (rows_fit : symbols ≤ length rows) where
+module _ {pivots rows : List ℕ} (one_each : length pivots ≡ length rows) where
   -- At first no row is taken out
-  pub substituted_none : (row : ℕ) → SubstitutedFrom symbols pivots rows row symbols 0 row
+  pub substituted_none : (row s : ℕ) → s ≡ length rows → SubstitutedFrom pivots rows row s 0 row
   unfolding back_substitute
-  substituted_none row =
+  substituted_none row s end =
+      let no_pivot : drop s pivots ≡ [] = drop_of_length-le pivots {i = s} (omega arith) in
+      let no_row : drop s rows ≡ [] = drop_of_length-le rows {i = s} (omega arith) in
       record {
-        is_subset =
-            sym (zero-mul (2 ^ symbols))
-            ∙ ap₂ (λ (ps rs : List ℕ). back_substitute ps rs row * 2 ^ symbols)
-            (sym (rows_from_end symbols pivots pivots_fit)) (sym (rows_from_end symbols rows rows_fit));
-        is_left =
-            sym (residue_of_no_rows row)
-            ∙ ap₂ (λ (ps rs : List ℕ). residue ps rs row)
-            (sym (rows_from_end symbols pivots pivots_fit)) (sym (rows_from_end symbols rows rows_fit));
+        is_subset = sym (zero-mul (2 ^ s)) ∙ ap₂ (λ (ps rs : List ℕ). back_substitute ps rs row * 2 ^ s) (sym no_pivot) (sym no_row);
+        is_left = sym (residue_of_no_rows row) ∙ ap₂ (λ (ps rs : List ℕ). residue ps rs row) (sym no_pivot) (sym no_row);
       }
 
   -- Row s, and behind it those from `later` on
-  module _ {row s later subset left : ℕ} (behind : later ≡ suc s) (within : s < symbols)
-      (substituted : SubstitutedFrom symbols pivots rows row later subset left) where
+  module _ {row s later subset left : ℕ} (behind : later ≡ suc s) (within : s < length rows)
+      (substituted : SubstitutedFrom pivots rows row later subset left) where
     abbrev pivot : ℕ
     pivot = get_or pivots s 0
 
     abbrev later_subset : ℕ
-    later_subset = back_substitute (rows_from symbols later pivots) (rows_from symbols later rows) row
+    later_subset = back_substitute (drop later pivots) (drop later rows) row
 
     shifted : subset ≡ later_subset * 2 ^ suc s
     shifted = substituted.is_subset ∙ ap (λ (n : ℕ). later_subset * 2 ^ n) behind
 
-    subset_step : back_substitute (rows_from symbols s pivots) (rows_from symbols s rows) row ≡ later_subset * 2 + overlap pivot left
+    next : (list : List ℕ) → s < length list → drop s list ≡ get_or list s 0 ∷ drop later list
+    next list here = drop-cons list s 0 here ∙ ap (λ (n : ℕ). get_or list s 0 ∷ drop n list) (sym behind)
+
+    subset_step : back_substitute (drop s pivots) (drop s rows) row ≡ later_subset * 2 + overlap pivot left
     unfolding back_substitute
     subset_step =
         ap₂ (λ (ps rs : List ℕ). back_substitute ps rs row)
-        (rows_from_next symbols pivots pivots_fit s later behind within) (rows_from_next symbols rows rows_fit s later behind within)
+        (next pivots (omega arith)) (next rows within)
         ∙ ap (λ (v : ℕ). later_subset * 2 + overlap pivot v) (sym substituted.is_left)
 
-    left_step : residue (rows_from symbols s pivots) (rows_from symbols s rows) row ≡ reduce_row pivot (get_or rows s 0) left
+    left_step : residue (drop s pivots) (drop s rows) row ≡ reduce_row pivot (get_or rows s 0) left
     left_step =
         ap₂ (λ (ps rs : List ℕ). residue ps rs row)
-        (rows_from_next symbols pivots pivots_fit s later behind within) (rows_from_next symbols rows rows_fit s later behind within)
-        ∙ residue_step pivot (rows_from symbols later pivots) (get_or rows s 0) (rows_from symbols later rows) row
+        (next pivots (omega arith)) (next rows within)
+        ∙ residue_step pivot (drop later pivots) (get_or rows s 0) (drop later rows) row
         ∙ ap (reduce_row pivot (get_or rows s 0)) (sym substituted.is_left)
 
     -- A row whose pivot is odd on what is left is taken out
     pub substituted_odd : eqb (overlap (get_or pivots s 0) left) 1 ≡ true → {subset' : ℕ} → subset' ≡ with subset s
-        → {left' : ℕ} → left' ≡ bit_xor left (get_or rows s 0) → SubstitutedFrom symbols pivots rows row s subset' left'
+        → {left' : ℕ} → left' ≡ bit_xor left (get_or rows s 0) → SubstitutedFrom pivots rows row s subset' left'
     unfolding scale
     substituted_odd odd is_subset' is_left' =
         record {
@@ -82,7 +81,7 @@ module _ {symbols : ℕ} {pivots rows : List ℕ} (pivots_fit : symbols ≤ leng
         is_odd = eqb-true (overlap pivot left) 1 odd
 
     -- Any other row stays
-    pub substituted_even : eqb (overlap (get_or pivots s 0) left) 1 ≡ false → SubstitutedFrom symbols pivots rows row s subset left
+    pub substituted_even : eqb (overlap (get_or pivots s 0) left) 1 ≡ false → SubstitutedFrom pivots rows row s subset left
     unfolding scale
     substituted_even even =
         record {
@@ -101,9 +100,8 @@ module _ {symbols : ℕ} {pivots rows : List ℕ} (pivots_fit : symbols ≤ leng
         doubled set bit = rw (pow-succ' 2 bit) (omega arith)
 
 -- Down at the first row the subset is whole
-pub substituted_all : {symbols : ℕ} {pivots rows : List ℕ} {row s subset left : ℕ} → s ≡ 0 → SubstitutedFrom symbols pivots rows row s subset left
-    → subset ≡ back_substitute (take symbols pivots) (take symbols rows) row
-substituted_all {symbols} {pivots} {rows} {row} none_left substituted =
+pub substituted_all : {pivots rows : List ℕ} {row s subset left : ℕ} → s ≡ 0 → SubstitutedFrom pivots rows row s subset left → subset ≡ back_substitute pivots rows row
+substituted_all {pivots} {rows} {row} none_left substituted =
     substituted.is_subset
-    ∙ ap (λ (s : ℕ). back_substitute (rows_from symbols s pivots) (rows_from symbols s rows) row * 2 ^ s) none_left
-    ∙ mul-one (back_substitute (take symbols pivots) (take symbols rows) row)
+    ∙ ap (λ (s : ℕ). back_substitute (drop s pivots) (drop s rows) row * 2 ^ s) none_left
+    ∙ mul-one (back_substitute pivots rows row)

@@ -10,3 +10,4 @@ pub mod DifferenceLaws
 pub mod CountLaws
 pub mod StoreLaws
 pub mod PaddedLaws
+pub mod PushLaws

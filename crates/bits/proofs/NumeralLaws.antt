@@ -1,6 +1,6 @@
--- Laws of the numbers of a list of sets: its length, its entries, a set stored, and the length of an array. Assumes nothing.
+-- Laws of the numbers of a list of sets: its length, its entries, a set stored or appended, the first of them, and the length of an array. Assumes nothing.
 use mathlib.Core.Path.{◌≡◌, refl, ap}
-use mathlib.Core.List.{List, [], ◌∷◌}
+use mathlib.Core.List.{List, [], ◌∷◌, ◌++◌}
 use Prim.Native.Nat.{ℕ, zero, suc}
 use lib.ListN.{length, get_or, set, take, drop, replicate}
 use borrow.Kind.Array.{good_length, e_struct}
@@ -33,6 +33,12 @@ numerals_set [] zero x = refl
 numerals_set [] (suc i) x = refl
 numerals_set (y ∷ ys) zero x = refl
 numerals_set (y ∷ ys) (suc i) x = ap (λ (ns : List ℕ). numeral y ∷ ns) (numerals_set ys i x)
+
+-- A set appended
+pub numerals_append : (sets : List BitSet) (x : BitSet) → numerals (sets ++ x ∷ []) ≡ numerals sets ++ numeral x ∷ []
+unfolding numerals
+numerals_append [] x = refl
+numerals_append (y ∷ ys) x = ap (λ (ns : List ℕ). numeral y ∷ ns) (numerals_append ys x)
 
 pub numerals_replicate : (count : ℕ) (x : BitSet) → numerals (replicate count x) ≡ replicate count (numeral x)
 unfolding numerals

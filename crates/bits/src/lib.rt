@@ -9,7 +9,7 @@ ghost use Rattle.bits.specs.Lists.{first_from};
 ghost use Rattle.bits.specs.Numerals.{set_width, numeral, numerals, first_difference};
 
 // A row of a code, a set of symbols or a pattern: bit 0 is the lowest.
-#[derive(Clone, Copy)]
+#[derive(Clone, Copy, Default)]
 pub struct BitSet {
     word: u64,
 }

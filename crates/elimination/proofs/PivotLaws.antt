@@ -8,16 +8,15 @@ use native.Mathlib.Omega.{arith}
 use borrow.Author.Tests.{eqb-true}
 use lib.Bits.{bit_xor}
 use lib.Dec.{eqb, eqb-suc-zero}
-use lib.ListN.{length, get_or, set, drop, length-map, take-append-drop}
-use lib.Seq.{get_or-drop, ext_get_or}
+use lib.ListN.{length, get_or, set, drop, length-map, drop_of_length-le}
+use lib.Seq.{ext_get_or}
 use Rattle.bits.specs.BitSets.{overlap}
 use Rattle.gf2.specs.InnerElimination.{pivot_for, reduce_pattern, reduce_patterns}
-use Rattle.bits.proofs.Booleans.{bool_cases}
-use Rattle.gf2.proofs.EliminationLaws.{get_or_reduce_patterns, pivot_for_zero}
+use Rattle.gf2.proofs.EliminationLaws.{get_or_reduce_patterns}
 use Rattle.bits.proofs.OverlapLaws.{even_if_not_odd, overlap_zero_left, overlap_zero_right}
-use Rattle.bits.proofs.StoreLaws.{overwritten, overwritten_next, overwritten_more, overwritten_kept, overwritten_enough}
-use Rattle.elimination.specs.InnerPatterns.{ZeroBehind, first_nonempty}
-use Rattle.elimination.proofs.PatternLaws.{reduce_pattern_even, reduce_pattern_odd, reduce_patterns_zero_behind}
+use Rattle.bits.proofs.StoreLaws.{overwritten, overwritten_next, overwritten_more, overwritten_kept, overwritten_all}
+use Rattle.elimination.specs.InnerPatterns.{first_nonempty}
+use Rattle.elimination.proofs.PatternLaws.{reduce_pattern_even, reduce_pattern_odd}
 
 -- ------------------------------------------------------------------
 -- The search
@@ -43,17 +42,10 @@ pivot_for_finds [] row (suc i) odd = refl
 pivot_for_finds (e ∷ es) row zero odd = ap (λ (c : Bool). cond c e (pivot_for es row)) odd
 pivot_for_finds (e ∷ es) row (suc i) odd = pivot_for_finds es row i odd
 
--- Among zeros there is no pivot
-pivot_for_of_zeros : (patterns : List ℕ) (row : ℕ) → ((i : ℕ) → get_or patterns i 0 ≡ 0) → pivot_for patterns row ≡ 0
-unfolding pivot_for
-pivot_for_of_zeros [] row zeros = refl
-pivot_for_of_zeros (e ∷ es) row zeros =
-    bool_cases (λ c. cond c e (pivot_for es row) ≡ 0) (zeros 0) (pivot_for_of_zeros es row (λ i. zeros (suc i))) (eqb (overlap e row) 1)
-
 -- Behind the last pattern there is no pivot
-pub pivot_for_behind : (count : ℕ) (patterns : List ℕ) (row : ℕ) → ZeroBehind count patterns → pivot_for (drop count patterns) row ≡ 0
-pivot_for_behind count patterns row zero_behind =
-    pivot_for_of_zeros (drop count patterns) row (λ i. get_or-drop count patterns i 0 ∙ zero_behind (count + i) (omega arith))
+pub pivot_for_end : (patterns : List ℕ) (row i : ℕ) → length patterns ≤ i → pivot_for (drop i patterns) row ≡ 0
+unfolding pivot_for
+pivot_for_end patterns row i all = ap (λ (l : List ℕ). pivot_for l row) (drop_of_length-le patterns {i = i} all)
 
 -- ------------------------------------------------------------------
 -- The first set that is not empty
@@ -86,7 +78,7 @@ unfolding reduce_patterns
 length_reduce_patterns patterns row = sym (length-map patterns (reduce_pattern (pivot_for patterns row) row))
 
 -- An empty row changes no pattern
-reduce_patterns_of_empty : (patterns : List ℕ) → reduce_patterns patterns 0 ≡ patterns
+pub reduce_patterns_of_empty : (patterns : List ℕ) → reduce_patterns patterns 0 ≡ patterns
 reduce_patterns_of_empty patterns =
     ext_get_or 0 (reduce_patterns patterns 0) patterns (sym (length_reduce_patterns patterns 0))
     (λ i h. get_or_reduce_patterns patterns 0 i ∙ reduce_pattern_even (pivot_for patterns 0) 0 (get_or patterns i 0) (overlap_zero_right (get_or patterns i 0)))
@@ -99,16 +91,6 @@ pub record PassedTo (patterns : List ℕ) (row i pivot : ℕ) (reduced : List �
 -- At first no pivot is found and no pattern is reduced
 pub passed_none : (patterns : List ℕ) (row : ℕ) → PassedTo patterns row 0 0 patterns
 passed_none patterns row = record { pivot_ahead = refl; stored = refl }
-
--- An empty row has no pivot and changes no pattern, so that the pass may be anywhere
-pub passed_empty : (patterns : List ℕ) {row pivot : ℕ} → eqb row 0 ≡ true → pivot ≡ 0 → (i : ℕ) → PassedTo patterns row i pivot patterns
-passed_empty patterns {row} {pivot} no_row no_pivot i =
-    rw (eqb-true row 0 no_row)
-    (rw no_pivot
-    (record {
-      pivot_ahead = pivot_for_zero (drop i patterns) ∙ sym (pivot_for_zero patterns);
-      stored = sym (ap (λ (l : List ℕ). overwritten patterns l i) (reduce_patterns_of_empty patterns) ∙ take-append-drop i patterns);
-    }))
 
 module _ {patterns : List ℕ} {row i pivot : ℕ} {reduced : List ℕ} (within : i < length patterns) (passed : PassedTo patterns row i pivot reduced) where
   within_reduced : i < length (reduce_patterns patterns row)
@@ -169,13 +151,10 @@ module _ {patterns : List ℕ} {row i pivot : ℕ} {reduced : List ℕ} (within 
       }
 
 -- Behind the last pattern the pivot is found and all patterns are reduced
-pub passed_all : {count : ℕ} {patterns : List ℕ} {row i pivot : ℕ} {reduced : List ℕ} → ZeroBehind count patterns → i ≡ count
-    → PassedTo patterns row i pivot reduced → (reduced ≡ reduce_patterns patterns row) × (pivot ≡ pivot_for patterns row)
-passed_all {count} {patterns} {row} {i} {pivot} {reduced} zero_behind all passed = (
-  overwritten_enough patterns (reduce_patterns patterns row) reduced count (length_reduce_patterns patterns row)
-      (passed.stored ∙ ap (overwritten patterns (reduce_patterns patterns row)) all)
-      (λ j h. reduce_patterns_zero_behind count patterns row zero_behind j h ∙ sym (zero_behind j h)),
-  sym (first_nonempty_empty pivot)
-      ∙ ap (first_nonempty pivot) (sym (pivot_for_behind count patterns row zero_behind) ∙ ap (λ (n : ℕ). pivot_for (drop n patterns) row) (sym all))
-      ∙ passed.pivot_ahead,
+pub passed_all : {patterns : List ℕ} {row i pivot : ℕ} {reduced : List ℕ} → length patterns ≤ i → PassedTo patterns row i pivot reduced
+    → (pivot ≡ pivot_for patterns row) × (reduced ≡ reduce_patterns patterns row)
+passed_all {patterns} {row} {i} {pivot} {reduced} all passed = (
+  sym (first_nonempty_empty pivot) ∙ ap (first_nonempty pivot) (sym (pivot_for_end patterns row i all)) ∙ passed.pivot_ahead,
+  overwritten_all patterns (reduce_patterns patterns row) reduced i (length_reduce_patterns patterns row) passed.stored
+      (omega (arith, length_reduce_patterns patterns row)),
 )

@@ -1,31 +1,26 @@
-// Elimination by patterns over arrays of sets: the rows' pivots and the patterns that remain.
+// Elimination by patterns: the rows' pivots and the patterns that remain.
 #![tactic(auto)]
 
-ghost use Rattle.std.specs.Prelude.{◌≡◌, ◌≤◌, eqb, take};
+ghost use Rattle.std.specs.Prelude.{◌≡◌, ◌≤◌, eqb, length};
 ghost use Rattle.bits.specs.BitSets.{overlap};
 ghost use Rattle.bits.specs.Numerals.{set_width, numeral, numerals};
-ghost use Rattle.gf2.specs.InnerElimination.{pivot_for, remaining, pivots};
-ghost use Rattle.elimination.specs.InnerPatterns.{unit_patterns, ZeroBehind, first_nonempty};
+ghost use Rattle.gf2.specs.InnerElimination.{pivot_for, reduce_patterns, remaining, pivots, units};
+ghost use Rattle.elimination.specs.InnerPatterns.{first_nonempty};
 
-use bits::{BitSet, BitSets, common, empty, empty_sets, is_empty, odd_overlap, sum, with};
+use arrayvec::ArrayVec;
+use bits::{BitSet, SET_WIDTH, common, empty, is_empty, odd_overlap, sum, with};
 
-// The patterns after all rows, and the pivot of each row.
-#[derive(Clone, Copy)]
-pub struct Eliminated {
-    pub remaining: BitSets,
-    pub pivots: BitSets,
-}
+// A list of at most as many sets as a set can have elements: patterns, pivots, subsets, equations.
+pub type SetList = ArrayVec<BitSet, SET_WIDTH>;
 
 // The patterns that elimination starts from.
-pub fn unit_patterns(width: usize) -> BitSets
+pub fn unit_patterns(width: usize) -> SetList
     requires { width ≤ set_width }
-    ensures { numerals result ≡ unit_patterns width }
+    ensures { numerals result.items ≡ units width }
 {
-    let mut patterns = empty_sets();
-    let mut i = 0;
-    while i < width {
-        patterns[i] = with(empty(), i);
-        i += 1;
+    let mut patterns = SetList::new();
+    for bit in 0..width {
+        patterns.push(with(empty(), bit));
     }
     patterns
 }
@@ -40,18 +35,14 @@ pub fn is_odd(pattern: BitSet, row: BitSet) -> bool
     odd_overlap(pattern, row)
 }
 
-// The first of `count` patterns that overlaps the row oddly; 0 where there is none.
-pub fn pivot_for(patterns: BitSets, count: usize, row: BitSet) -> BitSet
-    requires { (count ≤ set_width) × ZeroBehind count (numerals patterns) }
-    ensures { numeral result ≡ pivot_for (numerals patterns) (numeral row) }
+// The first of the patterns that overlaps the row oddly; 0 where there is none.
+pub fn pivot_for(patterns: &[BitSet], row: BitSet) -> BitSet
+    ensures { numeral result ≡ pivot_for (numerals patterns.now) (numeral row) }
 {
-    let mut i = 0;
-    while i < count {
-        let pattern = patterns[i];
-        if is_odd(pattern, row) {
-            return pattern;
+    for pattern in patterns {
+        if is_odd(*pattern, row) {
+            return *pattern;
         }
-        i += 1;
     }
     empty()
 }
@@ -66,33 +57,34 @@ fn first_nonempty(first: BitSet, second: BitSet) -> BitSet
     first
 }
 
-// The first `symbols` rows taken in, one after the other: a row's pivot is added to every pattern that overlaps it oddly. Overlaps are dear, so
-// pivot and patterns come from one pass, and an empty row, as every lost one is, needs none. The pass stands here and not in a function of its
-// own, which would have the patterns copied for every row.
-pub fn eliminate(patterns: BitSets, count: usize, rows: BitSets, symbols: usize) -> Eliminated
-    requires { (count ≤ set_width) × (symbols ≤ set_width) × ZeroBehind count (numerals patterns) }
-    ensures { (numerals result.remaining ≡ remaining (numerals patterns) (take symbols (numerals rows))) × (take symbols (numerals result.pivots) ≡ pivots (numerals patterns) (take symbols (numerals rows))) × ZeroBehind count (numerals result.remaining) }
+// A row taken in: its pivot is added to every pattern that overlaps it oddly. Overlaps are dear, so pivot and patterns come from one pass, and an
+// empty row, as every lost one is, needs none.
+fn take_in(patterns: &mut [BitSet], row: BitSet) -> BitSet
+    ensures pivot { numeral result ≡ pivot_for (numerals patterns.old) (numeral row) }
+    ensures reduced { numerals patterns.new ≡ reduce_patterns (numerals patterns.old) (numeral row) }
 {
-    let mut remaining = patterns;
-    let mut pivots = empty_sets();
-    let mut s = 0;
-    while s < symbols {
-        let row = rows[s];
-        let mut pivot = empty();
-        let mut i = if is_empty(row) { count } else { 0 };
-        while i < count {
-            let pattern = remaining[i];
-            if is_odd(pattern, row) {
-                pivot = first_nonempty(pivot, pattern);
-                remaining[i] = sum(pattern, pivot);
-            }
-            i += 1;
+    let mut pivot = empty();
+    if is_empty(row) {
+        return pivot;
+    }
+    for pattern in patterns {
+        if is_odd(*pattern, row) {
+            pivot = first_nonempty(pivot, *pattern);
+            *pattern = sum(*pattern, pivot);
         }
-        pivots[s] = pivot;
-        s += 1;
     }
-    Eliminated {
-        remaining: remaining,
-        pivots: pivots,
+    pivot
+}
+
+// The rows taken in, one after the other: their pivots are answered, and the patterns that remain take the places of the others.
+pub fn eliminate(patterns: &mut [BitSet], rows: &[BitSet]) -> SetList
+    requires { length rows.now ≤ set_width }
+    ensures remaining { numerals patterns.new ≡ remaining (numerals patterns.old) (numerals rows.now) }
+    ensures pivots { numerals result.items ≡ pivots (numerals patterns.old) (numerals rows.now) }
+{
+    let mut pivots = SetList::new();
+    for row in rows {
+        pivots.push(take_in(patterns, *row));
     }
+    pivots
 }

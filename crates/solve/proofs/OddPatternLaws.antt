@@ -11,9 +11,7 @@ use borrow.Author.Tests.{eqb-true, eqb-false}
 use Rattle.bits.specs.BitSets.{overlap}
 use Rattle.bits.specs.Lists.{symbols_in}
 use Rattle.bits.proofs.Booleans.{bool_cases}
-use Rattle.elimination.specs.InnerPatterns.{unit_patterns}
-use Rattle.elimination.proofs.PatternLaws.{unit_patterns_start}
-use Rattle.gf2.specs.InnerElimination.{pivot_for, remaining, nonempty, EvenOn}
+use Rattle.gf2.specs.InnerElimination.{pivot_for, remaining, nonempty, units, EvenOn}
 use Rattle.gf2.specs.InnerSubsetPlans.{survivors}
 use Rattle.gf2.proofs.EliminationLaws.{pivot_even_if_all_even, even_if_no_pivot, odd_if_pivot, pivot_below, remaining_below, starts_with_units_below}
 use Rattle.gf2.proofs.IdentityRowLaws.{pivot_for_nonempty}
@@ -128,7 +126,7 @@ pub record ShowsTarget (data_symbols : ℕ) (known : ℕ → Bool) (rows targets
 module _ (data_symbols : ℕ) (known : ℕ → Bool) (rows targets : List ℕ) where
   -- The patterns that elimination over the known rows leaves
   abbrev left : List ℕ
-  left = remaining (unit_patterns data_symbols) (survivors known rows)
+  left = remaining (units data_symbols) (survivors known rows)
 
   -- Where none is odd on a target's row, all are even on each
   pub even_if_none_found : odd_pattern left rows targets ≡ 0 → (t : ℕ) → Memᴰ t targets → EvenOn left (get_or rows t 0)
@@ -145,8 +143,8 @@ module _ (data_symbols : ℕ) (known : ℕ → Bool) (rows targets : List ℕ) w
         among = target.among;
         bits_below =
             pivot_below data_symbols left row
-            (remaining_below data_symbols (unit_patterns data_symbols) (survivors known rows)
-            (starts_with_units_below data_symbols (unit_patterns data_symbols) (unit_patterns_start data_symbols)));
-        even_on_known = λ s is_known. pivot_even_if_all_even left row (get_or rows s 0) (remaining_even_on_known (unit_patterns data_symbols) known rows s is_known);
+            (remaining_below data_symbols (units data_symbols) (survivors known rows)
+            (starts_with_units_below data_symbols (units data_symbols) (λ i. refl)));
+        even_on_known = λ s is_known. pivot_even_if_all_even left row (get_or rows s 0) (remaining_even_on_known (units data_symbols) known rows s is_known);
         odd_there = odd_if_pivot left row (λ none. found (target.pivot ∙ none));
       })

@@ -1,43 +1,23 @@
--- Laws of the known ones among the first rows of an array, and of the wanted symbols' subsets. Assumes nothing.
-use mathlib.Core.Path.{◌≡◌, sym, ap, ◌∙◌, subst}
+-- Laws of the rows' pivots and of the wanted symbols' subsets. Assumes nothing.
+use mathlib.Core.Path.{◌≡◌, refl, sym, ap, subst}
 use mathlib.Core.Bool.{Bool, cond}
-use mathlib.Core.List.{List}
-use Prim.Native.Nat.{ℕ, ◌^◌, ◌≤◌, ◌<◌}
+use mathlib.Core.List.{List, [], ◌∷◌}
+use Prim.Native.Nat.{ℕ, suc, ◌^◌, ◌<◌}
 use native.Mathlib.Decide.{dec_lt}
 use native.Mathlib.Omega.{arith}
-use lib.ListN.{length, get_or, take, get_or-eq_default}
+use lib.ListN.{length, get_or, get_or-eq_default}
 use lib.Pow.{pow_pos}
-use lib.Seq.{get_or-take, length-take-le}
-use Rattle.bits.specs.Numerals.{empty_set, numeral, numerals, padded}
-use Rattle.bits.specs.declared.BitSet.{BitSet}
 use Rattle.bits.proofs.Booleans.{bool_cases}
 use Rattle.bits.proofs.ListLaws.{length_tabulate, get_or_tabulate}
-use Rattle.bits.proofs.NumeralLaws.{get_or_numerals}
-use Rattle.bits.proofs.PaddedLaws.{take_padded}
-use Rattle.gf2.specs.InnerElimination.{back_substitute}
-use Rattle.gf2.specs.InnerSubsetPlans.{survivors}
+use Rattle.gf2.specs.InnerElimination.{reduce_patterns, pivots, back_substitute}
 use Rattle.gf2.proofs.EliminationLaws.{back_substitute_below}
-use Rattle.gf2.proofs.PlanningLaws.{get_or_survivors, length_survivors}
 use Rattle.solve.specs.InnerSolving.{wanted_subsets}
 
--- A row that is read is one of the first
-pub row_among_first : (rows : List BitSet) (symbols s : ℕ) → s < symbols → numeral (get_or rows s empty_set) ≡ get_or (take symbols (numerals rows)) s 0
-row_among_first rows symbols s h = get_or_numerals rows s ∙ sym (get_or-take symbols (numerals rows) s 0 h)
-
-module _ (symbols : ℕ) (rows : List ℕ) where
-  -- One row for each symbol, known or not
-  pub length_known : (known : ℕ → Bool) → symbols ≤ length rows → length (survivors known (take symbols rows)) ≡ symbols
-  length_known known fits = length_survivors known (take symbols rows) ∙ length-take-le symbols rows fits
-
-  -- An array begins with them
-  pub take_known : (known : ℕ → Bool) → symbols ≤ length rows → take symbols (padded (survivors known (take symbols rows))) ≡ survivors known (take symbols rows)
-  take_known known fits =
-      let all = survivors known (take symbols rows) in
-      ap (λ (n : ℕ). take n (padded all)) (sym (length_known known fits)) ∙ take_padded all
-
-  -- The row of a known symbol, and 0 for another
-  pub get_or_known : (known : ℕ → Bool) (s : ℕ) → s < symbols → get_or (survivors known (take symbols rows)) s 0 ≡ cond (known s) (get_or rows s 0) 0
-  get_or_known known s h = get_or_survivors known (take symbols rows) s ∙ ap (λ (row : ℕ). cond (known s) row 0) (get_or-take symbols rows s 0 h)
+-- There is a pivot for each row
+pub length_pivots : (patterns rows : List ℕ) → length (pivots patterns rows) ≡ length rows
+unfolding pivots
+length_pivots patterns [] = refl
+length_pivots patterns (row ∷ rows) = ap suc (length_pivots (reduce_patterns patterns row) rows)
 
 module _ (pivots surviving rows : List ℕ) (symbols : ℕ) (wanted : ℕ → Bool) where
   -- One subset for each symbol, wanted or not

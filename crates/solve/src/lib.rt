@@ -2,67 +2,67 @@
 // and for each wanted symbol the subset of the known ones that sums to it; and where some are out of reach, the patterns that are lost with them.
 #![tactic(auto)]
 
-ghost use Rattle.std.specs.Prelude.{◌≡◌, ◌≤◌, length, take};
+ghost use Rattle.std.specs.Prelude.{◌≡◌, ◌≤◌, length};
 ghost use Rattle.bits.specs.BitSets.{has};
 ghost use Rattle.bits.specs.Lists.{symbols_in};
-ghost use Rattle.bits.specs.Numerals.{set_width, numeral, numerals, padded};
-ghost use Rattle.elimination.specs.InnerPatterns.{unit_patterns, ZeroBehind};
-ghost use Rattle.gf2.specs.InnerElimination.{remaining, pivots};
+ghost use Rattle.bits.specs.Numerals.{set_width, numeral, numerals};
+ghost use Rattle.gf2.specs.InnerElimination.{remaining, pivots, back_substitute, nonempty, units};
 ghost use Rattle.gf2.specs.InnerSubsetPlans.{survivors};
 ghost use Rattle.solve.specs.InnerSolving.{odd_pattern, wanted_subsets};
 ghost use Rattle.spans.specs.InnerSpans.{lost_patterns};
 
 use back_substitution::back_substitute;
-use bits::{BitSet, BitSets, empty, empty_sets, has, is_empty};
+use bits::{BitSet, empty, has, is_empty};
+pub use elimination::SetList;
 use elimination::{eliminate, pivot_for, unit_patterns};
 
-pub mod set_lists; // set_lists.rt: the sets of an array that are not empty
-
-pub use set_lists::SetList;
-use set_lists::nonempty_sets;
-
-// Elimination over the known symbols: their rows, the pivot of each, and the patterns that remain.
-#[derive(Clone, Copy)]
-pub struct Elimination {
-    pub surviving: BitSets,
-    pub pivots: BitSets,
-    pub remaining: BitSets,
+// Those of some sets that are not empty, in order.
+pub fn nonempty_sets(sets: &[BitSet]) -> SetList
+    requires { length sets.now ≤ set_width }
+    ensures { numerals result.items ≡ nonempty (numerals sets.now) }
+{
+    let mut gathered = SetList::new();
+    for set in sets {
+        if !is_empty(*set) {
+            gathered.push(*set);
+        }
+    }
+    gathered
 }
 
-// The rows of the known symbols, and 0 for the others: symbols keep their numbers.
-pub fn surviving_rows(rows: BitSets, symbols: usize, known: BitSet) -> BitSets
-    requires { symbols ≤ set_width }
-    ensures { numerals result ≡ padded (survivors (has (numeral known)) (take symbols (numerals rows))) }
+// The rows of the known symbols, and empty ones for the others: symbols keep their numbers.
+pub fn surviving_rows(rows: &[BitSet], known: BitSet) -> SetList
+    requires { length rows.now ≤ set_width }
+    ensures { numerals result.items ≡ survivors (has (numeral known)) (numerals rows.now) }
 {
-    let mut surviving = empty_sets();
-    let mut s = 0;
-    while s < symbols {
-        if has(known, s) {
-            let row = rows[s];
-            surviving[s] = row;
-        }
-        s += 1;
+    let mut surviving = SetList::new();
+    for (s, row) in rows.iter().enumerate() {
+        let kept = if has(known, s) { *row } else { empty() };
+        surviving.push(kept);
     }
     surviving
 }
 
-// The known ones of the first `symbols` rows taken in, from the unit patterns of the data symbols on.
-pub fn eliminate_known(
-    rows: BitSets,
-    symbols: usize,
-    data_symbols: usize,
-    known: BitSet,
-) -> Elimination
-    requires { (symbols ≤ set_width) × (data_symbols ≤ set_width) }
-    ensures surviving { take symbols (numerals result.surviving) ≡ survivors (has (numeral known)) (take symbols (numerals rows)) }
-    ensures pivots { take symbols (numerals result.pivots) ≡ pivots (unit_patterns data_symbols) (survivors (has (numeral known)) (take symbols (numerals rows))) }
-    ensures remaining { numerals result.remaining ≡ remaining (unit_patterns data_symbols) (survivors (has (numeral known)) (take symbols (numerals rows))) }
+// Elimination over the known symbols: their rows, the pivot of each, and the patterns that remain.
+#[derive(Drop)]
+pub struct Elimination {
+    pub surviving: SetList,
+    pub pivots: SetList,
+    pub remaining: SetList,
+    ghost one_each: { length pivots.items ≡ length surviving.items },
+}
+
+// The known ones of the rows taken in, from the unit patterns of the data symbols on.
+pub fn eliminate_known(rows: &[BitSet], data_symbols: usize, known: BitSet) -> Elimination
+    requires rows_fit { length rows.now ≤ set_width }
+    requires data_fit { data_symbols ≤ set_width }
+    ensures surviving { numerals result.surviving.items ≡ survivors (has (numeral known)) (numerals rows.now) }
+    ensures pivots { numerals result.pivots.items ≡ pivots (units data_symbols) (survivors (has (numeral known)) (numerals rows.now)) }
+    ensures remaining { numerals result.remaining.items ≡ remaining (units data_symbols) (survivors (has (numeral known)) (numerals rows.now)) }
 {
-    let surviving = surviving_rows(rows, symbols, known);
-    let units = unit_patterns(data_symbols);
-    let eliminated = eliminate(units, data_symbols, surviving, symbols);
-    let pivots = eliminated.pivots;
-    let remaining = eliminated.remaining;
+    let surviving = surviving_rows(rows, known);
+    let mut remaining = unit_patterns(data_symbols);
+    let pivots = eliminate(remaining.as_mut_slice(), surviving.as_slice());
     Elimination {
         surviving,
         pivots,
@@ -70,67 +70,54 @@ pub fn eliminate_known(
     }
 }
 
-// The first of `count` patterns that overlaps a wanted row oddly, or the empty set.
-pub fn odd_pattern(
-    patterns: BitSets,
-    count: usize,
-    rows: BitSets,
-    symbols: usize,
-    wanted: BitSet,
-) -> BitSet
-    requires { (count ≤ set_width) × (symbols ≤ set_width) × ZeroBehind count (numerals patterns) }
-    ensures { numeral result ≡ odd_pattern (numerals patterns) (take symbols (numerals rows)) (symbols_in (has (numeral wanted)) 0 symbols) }
-{
-    let mut s = 0;
-    while s < symbols {
-        if has(wanted, s) {
-            let pattern = pivot_for(patterns, count, rows[s]);
-            if !is_empty(pattern) {
-                return pattern;
+impl Elimination {
+    // The subset of the known symbols that the pivots take out of a row.
+    pub fn subset(&self, row: BitSet) -> BitSet
+        ensures { numeral result ≡ back_substitute (numerals self.now.pivots.items) (numerals self.now.surviving.items) (numeral row) }
+    {
+        back_substitute(self.pivots.as_slice(), self.surviving.as_slice(), row)
+    }
+
+    // For each wanted symbol the subset of the known ones that the pivots take out of its row, and none for the others.
+    pub fn wanted_subsets(&self, rows: &[BitSet], wanted: BitSet) -> SetList
+        requires { length rows.now ≤ set_width }
+        ensures { numerals result.items ≡ wanted_subsets (numerals self.now.pivots.items) (numerals self.now.surviving.items) (numerals rows.now) (length rows.now) (has (numeral wanted)) }
+    {
+        let mut subsets = SetList::new();
+        for (target, row) in rows.iter().enumerate() {
+            let subset = if has(wanted, target) {
+                self.subset(*row)
+            } else {
+                empty()
+            };
+            subsets.push(subset);
+        }
+        subsets
+    }
+
+    // The first of the patterns that remain to overlap a wanted row oddly, or the empty set.
+    pub fn odd_pattern(&self, rows: &[BitSet], wanted: BitSet) -> BitSet
+        requires { length rows.now ≤ set_width }
+        ensures { numeral result ≡ odd_pattern (numerals self.now.remaining.items) (numerals rows.now) (symbols_in (has (numeral wanted)) 0 (length rows.now)) }
+    {
+        for (s, row) in rows.iter().enumerate() {
+            if has(wanted, s) {
+                let pattern = pivot_for(self.remaining.as_slice(), *row);
+                if !is_empty(pattern) {
+                    return pattern;
+                }
             }
         }
-        s += 1;
+        empty()
     }
-    empty()
-}
 
-// For each wanted symbol the subset of the known ones that the pivots take out of its row.
-pub fn wanted_subsets(
-    pivots: BitSets,
-    surviving: BitSets,
-    rows: BitSets,
-    symbols: usize,
-    wanted: BitSet,
-) -> BitSets
-    requires { symbols ≤ set_width }
-    ensures { numerals result ≡ padded (wanted_subsets (take symbols (numerals pivots)) (take symbols (numerals surviving)) (take symbols (numerals rows)) symbols (has (numeral wanted))) }
-{
-    let mut subsets = empty_sets();
-    let mut target = 0;
-    while target < symbols {
-        if has(wanted, target) {
-            let subset = back_substitute(pivots, surviving, symbols, rows[target]);
-            subsets[target] = subset;
-        }
-        target += 1;
+    // Elimination run on over the wanted rows: of the patterns that remain those that a wanted row takes as its pivot.
+    pub fn lost_patterns(&mut self, rows: &[BitSet], wanted: BitSet) -> SetList
+        requires { length rows.now ≤ set_width }
+        ensures { numerals result.items ≡ lost_patterns (numerals self.old.remaining.items) (survivors (has (numeral wanted)) (numerals rows.now)) }
+    {
+        let wanted_rows = surviving_rows(rows, wanted);
+        let lost = eliminate(self.remaining.as_mut_slice(), wanted_rows.as_slice());
+        nonempty_sets(lost.as_slice())
     }
-    subsets
-}
-
-// Elimination run on over the wanted rows: of `count` patterns those that a wanted row takes as its pivot.
-pub fn lost_patterns(
-    remaining: BitSets,
-    count: usize,
-    rows: BitSets,
-    symbols: usize,
-    wanted: BitSet,
-) -> SetList
-    requires { (count ≤ set_width) × (symbols ≤ set_width) × ZeroBehind count (numerals remaining) }
-    ensures count { result.count ≡ length (lost_patterns (numerals remaining) (survivors (has (numeral wanted)) (take symbols (numerals rows)))) }
-    ensures sets { numerals result.sets ≡ padded (lost_patterns (numerals remaining) (survivors (has (numeral wanted)) (take symbols (numerals rows)))) }
-{
-    let wanted_rows = surviving_rows(rows, symbols, wanted);
-    let eliminated = eliminate(remaining, count, wanted_rows, symbols);
-    let lost = eliminated.pivots;
-    nonempty_sets(lost, symbols)
 }

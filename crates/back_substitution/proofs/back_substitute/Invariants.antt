@@ -1,15 +1,7 @@
 -- The invariant of `back_substitution::back_substitute`: back substitution has come down to row s.
-use Prim.Native.Nat.{◌≤◌}
-use lib.ListN.{length}
 use Rattle.bits.specs.Numerals.{numeral, numerals}
 use Rattle.back_substitution.proofs.SubstitutionLaws.{SubstitutedFrom}
 use Rattle.back_substitution.proofs.back_substitute.Given as goal
 
 abbrev pub invariant-loop-s : goal.invariant-loop-s
-invariant-loop-s l = (l.s ≤ l.symbols)
-    × (l.symbols ≤ length (numerals l.pivots))
-    × (l.symbols ≤ length (numerals l.rows))
-    × SubstitutedFrom l.symbols (numerals l.pivots) (numerals l.rows) (numeral l.initial.left) l.s (numeral l.subset) (numeral l.left)
-
-abbrev pub decreases-loop-s : goal.decreases-loop-s
-decreases-loop-s l = l.s
+invariant-loop-s l = SubstitutedFrom (numerals l.pivots) (numerals l.rows) (numeral l.initial.left) l.s (numeral l.subset) (numeral l.left)

@@ -1,39 +1,32 @@
 -- `elimination::pivot_for` meets its contract. Assumes nothing.
-use mathlib.Core.Path.{◌≡◌, refl, sym, ap, ◌∙◌}
-use Prim.Native.Nat.{ℕ}
+use mathlib.Core.Path.{sym, ◌∙◌}
 use native.Mathlib.Omega.{arith}
-use lib.ListN.{drop}
-use Rattle.gf2.specs.InnerElimination.{pivot_for}
 use Rattle.bits.specs.Numerals.{numeral, numerals}
-use Rattle.bits.proofs.NumeralLaws.{get_or_numerals}
-use Rattle.elimination.proofs.PivotLaws.{pivot_for_passes, pivot_for_finds, pivot_for_behind}
+use Rattle.bits.proofs.NumeralLaws.{length_numerals, get_or_numerals}
+use Rattle.elimination.proofs.PivotLaws.{pivot_for_passes, pivot_for_finds, pivot_for_end}
 use Rattle.elimination.proofs.pivot_for.Goals as goal
-
-pub loop-i-init : goal.loop-i-init
-loop-i-init c = (omega arith, refl)
 
 pub returns-then-is_odd : goal.returns-then-is_odd
 returns-then-is_odd c =
     let args = c.args in
-    let loop = c.loop-i in
-    let overlap = rw (get_or_numerals args.patterns loop.i) at c.is_odd.ensures in
-    get_or_numerals args.patterns loop.i
-    ∙ sym (loop.invariant.1 ∙ pivot_for_finds (numerals args.patterns) (numeral args.row) loop.i (sym overlap ∙ c.if-is_odd.true))
+    let patterns = args.patterns.now in
+    let loop = c.loop-pattern in
+    let overlap = rw (get_or_numerals patterns loop.pattern-index) at c.is_odd.ensures in
+    get_or_numerals patterns loop.pattern-index
+    ∙ sym (loop.invariant ∙ pivot_for_finds (numerals patterns) (numeral args.row) loop.pattern-index (sym overlap ∙ c.if-is_odd.true))
 
-pub loop-i-preserved : goal.loop-i-preserved
-loop-i-preserved c =
+pub loop-pattern-preserved : goal.loop-pattern-preserved
+loop-pattern-preserved c =
     let args = c.args in
-    let loop = c.loop-i in
-    let overlap = rw (get_or_numerals args.patterns loop.i) at c.is_odd.ensures in
-    (omega arith, loop.invariant.1 ∙ pivot_for_passes (numerals args.patterns) (numeral args.row) loop.i (sym overlap ∙ c.if-is_odd.false))
+    let patterns = args.patterns.now in
+    let loop = c.loop-pattern in
+    let overlap = rw (get_or_numerals patterns loop.pattern-index) at c.is_odd.ensures in
+    loop.invariant ∙ pivot_for_passes (numerals patterns) (numeral args.row) loop.pattern-index (sym overlap ∙ c.if-is_odd.false)
 
 pub returns : goal.returns
 returns c =
     let args = c.args in
-    let loop = c.loop-i in
-    let all : loop.i ≡ args.count = omega arith in
+    let patterns = args.patterns.now in
+    let loop = c.loop-pattern in
     c.empty.ensures
-    ∙ sym
-    (loop.invariant.1
-    ∙ ap (λ (n : ℕ). pivot_for (drop n (numerals args.patterns)) (numeral args.row)) all
-    ∙ pivot_for_behind args.count (numerals args.patterns) (numeral args.row) c.requires.1)
+    ∙ sym (loop.invariant ∙ pivot_for_end (numerals patterns) (numeral args.row) loop.pattern-index (omega (arith, length_numerals patterns)))

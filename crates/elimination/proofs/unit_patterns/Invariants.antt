@@ -1,13 +1,9 @@
--- The invariant of `elimination::unit_patterns`: the first i unit patterns are stored.
+-- The invariant of `elimination::unit_patterns`: the units of the bits before `bit` are in the list.
 use mathlib.Core.Path.{◌≡◌}
-use Prim.Native.Nat.{◌-◌, ◌≤◌}
+use lib.ListN.{length, take}
 use Rattle.bits.specs.Numerals.{numerals}
-use Rattle.bits.proofs.PaddedLaws.{stored_to}
 use Rattle.gf2.specs.InnerElimination.{units}
 use Rattle.elimination.proofs.unit_patterns.Given as goal
 
-abbrev pub invariant-loop-i : goal.invariant-loop-i
-invariant-loop-i l = (l.i ≤ l.width) × (numerals l.patterns ≡ stored_to (units l.width) l.i)
-
-abbrev pub decreases-loop-i : goal.decreases-loop-i
-decreases-loop-i l = l.width - l.i
+abbrev pub invariant-loop-bit : goal.invariant-loop-bit
+invariant-loop-bit l = record { count : length l.patterns.items ≡ l.bit; so_far : numerals l.patterns.items ≡ take l.bit (units l.width) }
