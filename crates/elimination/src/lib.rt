@@ -13,6 +13,18 @@ use bits::{BitSet, SET_WIDTH, common, empty, is_empty, odd_overlap, sum, with};
 // A list of at most as many sets as a set can have elements: patterns, pivots, subsets, equations.
 pub type SetList = ArrayVec<BitSet, SET_WIDTH>;
 
+// A list of these sets.
+pub fn listed(sets: &[BitSet]) -> SetList
+    requires { length sets.now ≤ set_width }
+    ensures { result.items ≡ sets.now }
+{
+    let mut list = SetList::new();
+    for set in sets {
+        list.push(*set);
+    }
+    list
+}
+
 // The patterns that elimination starts from.
 pub fn unit_patterns(width: usize) -> SetList
     requires { width ≤ set_width }

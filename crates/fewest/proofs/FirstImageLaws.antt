@@ -1,15 +1,12 @@
 -- The images that the search begins with: empty ones need not be looked at, and rows of symbols that are neither known nor wanted decide nothing. Assumes nothing.
-use mathlib.Core.Path.{◌≡◌, sym, ap, ◌∙◌, subst}
+use mathlib.Core.Path.{◌≡◌, sym, ap, ◌∙◌}
 use mathlib.Core.Bool.{Bool, true, cond}
 use mathlib.Core.List.{List, [], ◌∷◌}
-use Prim.Native.Nat.{ℕ, zero, suc, ◌≤◌, ◌<◌}
+use Prim.Native.Nat.{ℕ, zero, suc, ◌<◌}
 use native.Mathlib.Omega.{arith}
-use lib.ListN.{length, get_or, take}
-use lib.Seq.{get_or-take, length-take-le}
+use lib.ListN.{length, get_or}
 use Rattle.bits.specs.BitSets.{overlap}
-use Rattle.bits.specs.Numerals.{padded}
 use Rattle.bits.proofs.OverlapLaws.{overlap_zero_left}
-use Rattle.bits.proofs.PaddedLaws.{get_or_padded}
 use Rattle.gf2.specs.InnerElimination.{nonempty}
 use Rattle.gf2.specs.InnerSubsetPlans.{survivors}
 use Rattle.gf2.specs.Plans.{Within}
@@ -36,37 +33,13 @@ if_of_nonempty P (zero ∷ xs) of_zero some (suc j) h = if_of_nonempty P xs of_z
 if_of_nonempty P (suc x ∷ xs) of_zero some zero h = some 0 (omega arith)
 if_of_nonempty P (suc x ∷ xs) of_zero some (suc j) h = if_of_nonempty P xs of_zero (λ i q. some (suc i) (omega arith)) j (omega arith)
 
-pub images_nonempty : (rows : List ℕ) (taken : ℕ → Bool) (total : ℕ) (images : List ℕ) → total ≤ length images → Images rows taken total images
-    → {count : ℕ} {gathered : List ℕ} → count ≡ length (nonempty (take total images)) → gathered ≡ padded (nonempty (take total images)) → Images rows taken count gathered
-images_nonempty rows taken total images enough_there given {count} {gathered} counted stored =
+pub images_nonempty : (rows : List ℕ) (taken : ℕ → Bool) (images : List ℕ) → Images rows taken (length images) images → Images rows taken (length (nonempty images)) (nonempty images)
+images_nonempty rows taken images given =
     record {
-      shown = λ i h. at i (Image rows) (of_nonempty (Image rows) front (λ j q. first (Image rows) j q (given.shown j (below j q))) i (omega (arith, counted)));
-      avoid = λ i h. at i (λ x. Avoids x taken) (of_nonempty (λ x. Avoids x taken) front (λ j q. first (λ x. Avoids x taken) j q (given.avoid j (below j q))) i (omega (arith, counted)));
-      decide =
-          λ v all_even.
-          given.decide v
-          (λ j h.
-          subst (λ (x : ℕ). overlap x v ≡ 0) (get_or-take total images j 0 h)
-          (if_of_nonempty (λ x. overlap x v ≡ 0) front (overlap_zero_left v) (λ i q. subst (λ (x : ℕ). overlap x v ≡ 0) (entry i) (all_even i (omega (arith, counted)))) j (omega (arith, front_length))));
+      shown = of_nonempty (Image rows) images given.shown;
+      avoid = of_nonempty (λ x. Avoids x taken) images given.avoid;
+      decide = λ v all_even. given.decide v (if_of_nonempty (λ x. overlap x v ≡ 0) images (overlap_zero_left v) all_even);
     }
-  where
-    front : List ℕ
-    front = take total images
-
-    front_length : length front ≡ total
-    front_length = length-take-le total images enough_there
-
-    below : (j : ℕ) → j < length front → j < total
-    below j h = omega (arith, front_length)
-
-    entry : (i : ℕ) → get_or gathered i 0 ≡ get_or (nonempty front) i 0
-    entry i = ap (λ (l : List ℕ). get_or l i 0) stored ∙ get_or_padded (nonempty front) i
-
-    at : (i : ℕ) (P : ℕ → Type 0) → P (get_or (nonempty front) i 0) → P (get_or gathered i 0)
-    at i P holds = subst P (sym (entry i)) holds
-
-    first : (P : ℕ → Type 0) (j : ℕ) → j < length front → P (get_or images j 0) → P (get_or front j 0)
-    first P j h holds = subst P (sym (get_or-take total images j 0 (below j h))) holds
 
 -- ------------------------------------------------------------------
 -- Rows of the symbols involved alone

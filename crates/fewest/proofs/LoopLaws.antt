@@ -1,16 +1,17 @@
 -- Laws of the loops: one symbol more in a column, one entry more in an array, and the first images. Assumes nothing.
-use mathlib.Core.Path.{◌≡◌, refl, sym, ap, ap₂, ◌∙◌}
+use mathlib.Core.Path.{◌≡◌, refl, sym, ap, ap₂, ◌∙◌, subst}
 use mathlib.Core.Bool.{Bool, true, false, cond, ◌||◌, true≢false}
-use mathlib.Core.List.{List, [], ◌∷◌}
+use mathlib.Core.List.{List, [], ◌∷◌, ◌++◌}
 use Prim.Native.Nat.{ℕ, zero, suc, ◌+◌, ◌/◌, ◌%◌, ◌^◌, ◌≤◌, ◌<◌}
 use native.Mathlib.Decide.{dec_lt}
 use native.Mathlib.Nat.{pow-succ'}
 use native.Mathlib.Omega.{arith}
 use lib.Bits.{bit_and, bit_xor, xor_zero_r}
 use lib.Dec.{eqb, ltb}
-use lib.ListN.{length, get_or, set, take, get_or-eq_default}
-use lib.Seq.{get_or-take, get_or-set_same, get_or-set_other, length-take-le}
+use lib.ListN.{length, get_or, set, get_or-append, get_or-eq_default}
+use lib.Seq.{get_or-set_same, get_or-set_other, get_or-append_seam}
 use borrow.Author.Tests.{lt-ltb, le-ltb, eqb-true, eqb-false}
+use Rattle.std.specs.Prelude.{Option, Some, None, IfSome, IfNone}
 use Rattle.bits.specs.BitSets.{has, with, overlap, scale}
 use Rattle.bits.specs.Numerals.{set_width}
 use Rattle.bits.proofs.OverlapLaws.{overlap_comm, overlap_zero_left, overlap_zero_right, overlap_xor_right, overlap_scale_right, overlap_step, overlap_one, overlap_unit_suc, zero_if_units_even}
@@ -73,14 +74,14 @@ module _ (rows : List ℕ) (bit s column : ℕ) (so_far : ColumnTo rows bit s co
       by_place false e = column_other x (eqb-false x s e)
 
 -- All rows
-pub column_all : (rows : List ℕ) (bit symbols column : ℕ) → symbols ≤ length rows → ColumnTo rows bit symbols column → (x : ℕ) → has column x ≡ has (get_or (take symbols rows) x 0) bit
-column_all rows bit symbols column fits so_far x = so_far x ∙ ap (λ (row : ℕ). has row bit) (by_side (dec_lt x symbols))
+pub column_all : (rows : List ℕ) (bit s column : ℕ) → length rows ≤ s → ColumnTo rows bit s column → (x : ℕ) → has column x ≡ has (get_or rows x 0) bit
+column_all rows bit s column all so_far x = so_far x ∙ ap (λ (row : ℕ). has row bit) (by_side (dec_lt x s))
   where
-    by_side : Dec (x < symbols) → cond (ltb x symbols) (get_or rows x 0) 0 ≡ get_or (take symbols rows) x 0
-    by_side (yes h) = ap (λ (c : Bool). cond c (get_or rows x 0) 0) (lt-ltb x symbols h) ∙ sym (get_or-take symbols rows x 0 h)
+    by_side : Dec (x < s) → cond (ltb x s) (get_or rows x 0) 0 ≡ get_or rows x 0
+    by_side (yes h) = ap (λ (c : Bool). cond c (get_or rows x 0) 0) (lt-ltb x s h)
     by_side (no h) =
-        ap (λ (c : Bool). cond c (get_or rows x 0) 0) (le-ltb x symbols (omega arith))
-        ∙ sym (get_or-eq_default (take symbols rows) 0 {n = x} (omega (arith, length-take-le symbols rows fits)))
+        ap (λ (c : Bool). cond c (get_or rows x 0) 0) (le-ltb x s (omega arith))
+        ∙ sym (get_or-eq_default rows 0 {n = x} (omega arith))
 
 -- ------------------------------------------------------------------
 -- An array of which each entry in turn is mapped
@@ -136,16 +137,16 @@ reduced_even pivot unit image even = rw even (xor_zero_r image)
 -- ------------------------------------------------------------------
 -- What holds of the entries before i
 
--- One entry more is stored
-pub entries_more : (P : ℕ → ℕ → Type 0) (now : List ℕ) (i : ℕ) → i < length now → ((j : ℕ) → j < i → P j (get_or now j 0)) → {entry : ℕ} → P i entry
-    → (j : ℕ) → j < i + 1 → P j (get_or (set now i entry) j 0)
-entries_more P now i within so_far {entry} own j h = by_place (eqb j i) refl
+-- One entry more comes behind them
+pub entries_more : (P : ℕ → ℕ → Type 0) (now : List ℕ) (i : ℕ) → length now ≡ i → ((j : ℕ) → j < i → P j (get_or now j 0)) → {entry : ℕ} → P i entry
+    → (j : ℕ) → j < i + 1 → P j (get_or (now ++ entry ∷ []) j 0)
+entries_more P now i all so_far {entry} own j h = by_place (dec_lt j i)
   where
-    by_place : (c : Bool) → eqb j i ≡ c → P j (get_or (set now i entry) j 0)
-    by_place true e = rw (eqb-true j i e) (rw (get_or-set_same now i entry 0 within) own)
-    by_place false e =
-        let other = eqb-false j i e in
-        rw (get_or-set_other now i j entry 0 other) (so_far j (omega arith))
+    by_place : Dec (j < i) → P j (get_or (now ++ entry ∷ []) j 0)
+    by_place (yes before) = rw (get_or-append now (entry ∷ []) 0 j (omega arith)) (so_far j before)
+    by_place (no here) =
+        let last : j ≡ length now = omega arith in
+        rw (last, get_or-append_seam now entry [] 0) (subst (λ (n : ℕ). P n entry) (sym all) own)
 
 -- ------------------------------------------------------------------
 -- The first images
@@ -195,53 +196,54 @@ columns_images rows width images rows_below columns =
 -- ------------------------------------------------------------------
 -- The next image
 
--- Of the first i images one that has a wanted symbol, at `at`, or none has one
-pub record NextTo (images : List ℕ) (wanted total i at : ℕ) : Type 0 where
-  pub at_most : at ≤ total
-  pub found : at < total → Avoids (get_or images at 0) (has wanted) → ⊥
-  pub none : total ≤ at → (j : ℕ) → j < i → Avoids (get_or images j 0) (has wanted)
+-- Of the images before i one that has a wanted symbol, or none has one
+pub record NextTo (images : List ℕ) (wanted i : ℕ) (next : Option ℕ) : Type 0 where
+  pub found : IfSome next (λ at. (at < length images) × (Avoids (get_or images at 0) (has wanted) → ⊥))
+  pub none : IfNone next ((j : ℕ) → j < i → Avoids (get_or images j 0) (has wanted))
 
 -- None was looked at
-pub next_start : (images : List ℕ) (wanted total : ℕ) → NextTo images wanted total 0 total
-next_start images wanted total = record { at_most = omega arith; found = λ h. absurd (omega arith); none = λ h j k. absurd (omega arith) }
+pub next_start : (images : List ℕ) (wanted : ℕ) → NextTo images wanted 0 None
+next_start images wanted = record { found = tt; none = λ j k. absurd (omega arith) }
 
-module _ (images : List ℕ) (wanted total i : ℕ) where
+module _ (images : List ℕ) (wanted i : ℕ) where
   -- Image i has one
-  pub next_found : i < total → wanted < 2 ^ set_width → {image at : ℕ} → image ≡ get_or images i 0 → eqb (bit_and image wanted) 0 ≡ false → at ≡ i → NextTo images wanted total (i + 1) at
-  next_found below small {image} {at} is_image some same =
-      record {
-        at_most = omega arith;
-        found =
-            λ h avoids.
-            eqb-false (bit_and image wanted) 0 some
-            (ap (λ (x : ℕ). bit_and x wanted) (is_image ∙ ap (λ (n : ℕ). get_or images n 0) (sym same))
-            ∙ nothing_shared_if_avoids set_width (get_or images at 0) wanted small avoids);
-        none = λ h. absurd (omega arith);
-      }
+  pub next_found : i < length images → wanted < 2 ^ set_width → {image : ℕ} → image ≡ get_or images i 0 → eqb (bit_and image wanted) 0 ≡ false
+      → {next : Option ℕ} → next ≡ Some i → NextTo images wanted (i + 1) next
+  next_found below small {image} is_image some same =
+      rw same
+      (record {
+        found = (
+          below,
+          λ avoids.
+              eqb-false (bit_and image wanted) 0 some
+              (ap (λ (x : ℕ). bit_and x wanted) is_image ∙ nothing_shared_if_avoids set_width (get_or images i 0) wanted small avoids),
+        );
+        none = tt;
+      })
 
   -- One was found before
-  pub next_kept : {at before : ℕ} → NextTo images wanted total i before → (before ≡ total → ⊥) → at ≡ before → NextTo images wanted total (i + 1) at
-  next_kept {at} {before} so_far found same =
-      rw same
-      (record {
-        at_most = so_far.at_most;
-        found = so_far.found;
-        none = λ h. absurd (found (omega (arith, so_far.at_most)));
-      })
+  pub next_kept : (before : Option ℕ) {next : Option ℕ} → NextTo images wanted i before → (before ≡ None → ⊥) → next ≡ before → NextTo images wanted (i + 1) next
+  next_kept (Some at) so_far found same = rw same (record { found = so_far.found; none = tt })
+  next_kept None so_far found same = absurd (found refl)
 
   -- Image i has none
-  pub next_passed : {at before : ℕ} → NextTo images wanted total i before → {image : ℕ} → image ≡ get_or images i 0 → eqb (bit_and image wanted) 0 ≡ true → at ≡ before → NextTo images wanted total (i + 1) at
-  next_passed {at} {before} so_far {image} is_image nothing same =
-      rw same
-      (record {
-        at_most = so_far.at_most;
-        found = so_far.found;
-        none = λ h j k. by_place h j k (eqb j i) refl;
-      })
+  pub next_passed : (before : Option ℕ) {next : Option ℕ} → NextTo images wanted i before → {image : ℕ} → image ≡ get_or images i 0 → eqb (bit_and image wanted) 0 ≡ true → next ≡ before
+      → NextTo images wanted (i + 1) next
+  next_passed (Some at) so_far is_image nothing same = rw same (record { found = so_far.found; none = tt })
+  next_passed None so_far {image} is_image nothing same = rw same (record { found = tt; none = λ j k. by_place j k (eqb j i) refl })
     where
-      by_place : total ≤ before → (j : ℕ) → j < i + 1 → (c : Bool) → eqb j i ≡ c → Avoids (get_or images j 0) (has wanted)
-      by_place h j k true e =
+      by_place : (j : ℕ) → j < i + 1 → (c : Bool) → eqb j i ≡ c → Avoids (get_or images j 0) (has wanted)
+      by_place j k true e =
           rw (eqb-true j i e) (rw (sym is_image) (avoids_if_nothing_shared image wanted (eqb-true (bit_and image wanted) 0 nothing)))
-      by_place h j k false e =
+      by_place j k false e =
           let other = eqb-false j i e in
-          so_far.none h j (omega arith)
+          so_far.none j (omega arith)
+
+-- All were looked at
+pub next_all : {images : List ℕ} {wanted i count : ℕ} (next : Option ℕ) → NextTo images wanted i next → length images ≡ count → count ≤ i
+    → record {
+      found : IfSome next (λ at. (at < count) × (Avoids (get_or images at 0) (has wanted) → ⊥));
+      none : IfNone next ((j : ℕ) → j < count → Avoids (get_or images j 0) (has wanted));
+    }
+next_all (Some at) so_far same all = record { found = (omega (arith, so_far.found.0), so_far.found.1); none = tt }
+next_all None so_far same all = record { found = tt; none = λ j h. so_far.none j (omega arith) }

@@ -5,7 +5,7 @@
 // take it, after which the images are reduced to those that avoid it, and to leave it out.
 #![tactic(auto)]
 
-ghost use Rattle.std.specs.Prelude.{◌≡◌, List, ℕ, ◌+◌, ◌^◌, ◌≤◌, ◌<◌, length, get_or, take};
+ghost use Rattle.std.specs.Prelude.{◌≡◌, List, ℕ, ◌+◌, ◌^◌, ◌≤◌, ◌<◌, length, get_or, IfSome, IfNone};
 ghost use Rattle.std.specs.Int.Bits.{bit_xor};
 ghost use Rattle.bits.specs.BitSets.{has};
 ghost use Rattle.bits.specs.Numerals.{set_width, numeral, numerals};
@@ -16,111 +16,82 @@ ghost use Rattle.gf2.specs.Plans.{PlacesBelow};
 ghost use Rattle.fewest.specs.InnerFewest.{Avoids, Fewest, Images, IsColumn, KeepsImages, Meets, MeetsEach, MeetsEachSum, NeededBesides, OfWidth, Searched, StillNeeded, either, size};
 
 use bits::{
-    BitSet, BitSets, SET_WIDTH, below, common, count, empty, empty_sets, has, is_empty,
-    lowest_from, sum, union, with,
+    BitSet, SET_WIDTH, below, common, count, empty, has, is_empty, lowest_from, sum, union, with,
 };
-use solve::set_lists::nonempty_sets;
-use solve::{SetList, surviving_rows};
+use elimination::listed;
+use solve::{SetList, nonempty_sets, surviving_rows};
 
 // The symbols whose rows have a data symbol's bit: on these the unit pattern of that bit shows.
-fn column(rows: BitSets, symbols: usize, bit: usize) -> BitSet
-    requires { (symbols ≤ set_width) × (bit < set_width) }
-    ensures { IsColumn (take symbols (numerals rows)) bit (numeral result) }
+fn column(rows: &[BitSet], bit: usize) -> BitSet
+    requires { (length rows.now ≤ set_width) × (bit < set_width) }
+    ensures { IsColumn (numerals rows.now) bit (numeral result) }
 {
     let mut set = empty();
-    let mut s = 0;
-    while s < symbols {
-        if has(rows[s], bit) {
+    for (s, row) in rows.iter().enumerate() {
+        if has(*row, bit) {
             set = with(set, s);
         }
-        s += 1;
     }
     set
 }
 
 // The images of the unit patterns, of which every image is a sum.
-fn columns(rows: BitSets, symbols: usize, data_symbols: usize) -> BitSets
-    requires { (symbols ≤ set_width) × (data_symbols ≤ set_width) }
-    ensures { (i : ℕ) → i < data_symbols → IsColumn (take symbols (numerals rows)) i (get_or (numerals result) i 0) }
+fn columns(rows: &[BitSet], data_symbols: usize) -> SetList
+    requires { (length rows.now ≤ set_width) × (data_symbols ≤ set_width) }
+    ensures all { length result.items ≡ data_symbols }
+    ensures columns { (i : ℕ) → i < data_symbols → IsColumn (numerals rows.now) i (get_or (numerals result.items) i 0) }
 {
-    let mut images = empty_sets();
-    let mut i = 0;
-    while i < data_symbols {
-        images[i] = column(rows, symbols, i);
-        i += 1;
+    let mut images = SetList::new();
+    for bit in 0..data_symbols {
+        images.push(column(rows, bit));
     }
     images
 }
 
-// Of the images that have a wanted symbol the first with the fewest symbols that may be taken; `total` where none has one.
-fn next_image(images: BitSets, total: usize, wanted: BitSet, allowed: BitSet) -> usize
-    requires { (total ≤ set_width) × OfWidth wanted }
-    ensures found { result < total → Avoids (get_or (numerals images) result 0) (has (numeral wanted)) → ⊥ }
-    ensures none { total ≤ result → (i : ℕ) → i < total → Avoids (get_or (numerals images) i 0) (has (numeral wanted)) }
+// Of the images that have a wanted symbol the first with the fewest symbols that may be taken.
+fn next_image(images: &[BitSet], wanted: BitSet, allowed: BitSet) -> Option<usize>
+    requires { OfWidth wanted }
+    ensures found { IfSome result (λ at. (at < length images.now) × (Avoids (get_or (numerals images.now) at 0) (has (numeral wanted)) → ⊥)) }
+    ensures none { IfNone result ((i : ℕ) → i < length images.now → Avoids (get_or (numerals images.now) i 0) (has (numeral wanted))) }
 {
-    let mut at = total;
+    let mut next = None;
     let mut fewest = SET_WIDTH;
-    let mut i = 0;
-    while i < total {
-        let image = images[i];
-        if !is_empty(common(image, wanted)) {
-            let choices = count(common(image, allowed));
-            if at == total {
-                at = i;
-                fewest = choices;
-            } else if choices < fewest {
-                at = i;
+    for (i, image) in images.iter().enumerate() {
+        if !is_empty(common(*image, wanted)) {
+            let choices = count(common(*image, allowed));
+            if next.is_none() || choices < fewest {
+                next = Some(i);
                 fewest = choices;
             }
         }
-        i += 1;
     }
-    at
+    next
 }
 
 // The images that avoid an element besides: one that has it is added to each that has it.
-fn reduce(images: BitSets, total: usize, pivot: BitSet, element: usize) -> BitSets
-    requires { (total ≤ set_width) × (element < set_width) }
-    ensures reduced { (i : ℕ) → i < total → get_or (numerals result) i 0 ≡ reduce_pattern (numeral pivot) (2 ^ element) (get_or (numerals images) i 0) }
-    ensures held { length (numerals result) ≡ set_width }
+fn reduce(images: &mut [BitSet], pivot: BitSet, element: usize)
+    requires { element < set_width }
+    ensures { (i : ℕ) → i < length images.old → get_or (numerals images.new) i 0 ≡ reduce_pattern (numeral pivot) (2 ^ element) (get_or (numerals images.old) i 0) }
 {
-    let mut reduced = images;
-    let mut i = 0;
-    while i < total {
-        let image = reduced[i];
-        if has(image, element) {
-            reduced[i] = sum(image, pivot);
+    for image in images {
+        if has(*image, element) {
+            *image = sum(*image, pivot);
         }
-        i += 1;
     }
-    reduced
 }
 
 // The images added to each other until each has a symbol of its own among those that may be taken, where that can be: sums of two are then small.
-fn spread(images: BitSets, total: usize, allowed: BitSet) -> BitSets
-    requires { total ≤ set_width }
-    ensures kept { KeepsImages total (numerals images) (numerals result) }
-    ensures held { length (numerals result) ≡ set_width }
+fn spread(images: &mut [BitSet], allowed: BitSet)
+    ensures { KeepsImages (length images.old) (numerals images.old) (numerals images.new) }
 {
-    let mut apart = images;
-    let mut i = 0;
-    while i < total {
-        let image = apart[i];
+    for i in 0..images.len() {
+        let image = images[i];
         let own = lowest_from(common(image, allowed), 0);
         if own < SET_WIDTH {
-            let mut j = 0;
-            while j < total {
-                let other = apart[j];
-                if has(other, own) {
-                    apart[j] = sum(other, image);
-                }
-                j += 1;
-            }
-            apart[i] = image;
+            reduce(images, image, own);
+            images[i] = image;
         }
-        i += 1;
     }
-    apart
 }
 
 // Images that share no symbol that may be taken: their symbols of this kind, and how many images they are.
@@ -164,20 +135,16 @@ fn with_image(
 // The images one after the other.
 fn with_images(
     earlier: Disjoint,
-    images: BitSets,
-    total: usize,
+    images: &[BitSet],
     wanted: BitSet,
     allowed: BitSet,
     few: usize,
 ) -> Disjoint
-    requires { total ≤ set_width }
-    ensures { StillNeeded (MeetsEach (numeral wanted) (numeral allowed) total (numerals images)) earlier result }
+    ensures { StillNeeded (MeetsEach (numeral wanted) (numeral allowed) (length images.now) (numerals images.now)) earlier result }
 {
     let mut more = earlier;
-    let mut i = 0;
-    while i < total {
-        more = with_image(more, images[i], wanted, allowed, few);
-        i += 1;
+    for image in images {
+        more = with_image(more, *image, wanted, allowed, few);
     }
     more
 }
@@ -185,61 +152,48 @@ fn with_images(
 // The sums of two of them each.
 fn with_pairs(
     earlier: Disjoint,
-    images: BitSets,
-    total: usize,
+    images: &[BitSet],
     wanted: BitSet,
     allowed: BitSet,
     few: usize,
 ) -> Disjoint
-    requires { total ≤ set_width }
-    ensures { StillNeeded (MeetsEachSum (numeral wanted) (numeral allowed) total (numerals images)) earlier result }
+    ensures { StillNeeded (MeetsEachSum (numeral wanted) (numeral allowed) (length images.now) (numerals images.now)) earlier result }
 {
     let mut more = earlier;
-    let mut i = 0;
-    while i < total {
-        let image = images[i];
-        let mut j = 0;
-        while j < i {
-            more = with_image(more, sum(image, images[j]), wanted, allowed, few);
-            j += 1;
+    for (i, image) in images.iter().enumerate() {
+        for other in &images[..i] {
+            more = with_image(more, sum(*image, *other), wanted, allowed, few);
         }
-        i += 1;
     }
     more
 }
 
 // So many symbols at least are to be taken besides, for any set that is enough.
-fn symbols_needed(images: BitSets, total: usize, wanted: BitSet, allowed: BitSet) -> usize
-    requires { (total ≤ set_width) × OfWidth wanted × OfWidth allowed }
-    ensures { NeededBesides total (numerals images) (numeral wanted) (numeral allowed) result }
+fn symbols_needed(images: &[BitSet], wanted: BitSet, allowed: BitSet) -> usize
+    requires { OfWidth wanted × OfWidth allowed }
+    ensures { NeededBesides (length images.now) (numerals images.now) (numeral wanted) (numeral allowed) result }
 {
     let none = Disjoint {
         used: empty(),
         found: 0,
     };
-    let alone = with_images(none, images, total, wanted, allowed, 1);
-    let pairs = with_pairs(alone, images, total, wanted, allowed, 2);
-    let all = with_images(pairs, images, total, wanted, allowed, SET_WIDTH);
+    let alone = with_images(none, images, wanted, allowed, 1);
+    let pairs = with_pairs(alone, images, wanted, allowed, 2);
+    let all = with_images(pairs, images, wanted, allowed, SET_WIDTH);
     all.found
 }
 
 // The images that the search begins with: those of the patterns' parts on the known and the wanted symbols, spread over the known ones. Empty ones are left
 // out, so that there are no more than these symbols' rows have rank.
-fn first_images(
-    rows: BitSets,
-    symbols: usize,
-    data_symbols: usize,
-    known: BitSet,
-    wanted: BitSet,
-) -> SetList
-    requires { (symbols ≤ set_width) × (data_symbols ≤ set_width) × Below data_symbols (take symbols (numerals rows)) }
-    ensures few { result.count ≤ set_width }
-    ensures images { Images (survivors (either (numeral known) (numeral wanted)) (take symbols (numerals rows))) (has 0) result.count (numerals result.sets) }
+fn first_images(rows: &[BitSet], data_symbols: usize, known: BitSet, wanted: BitSet) -> SetList
+    requires { (length rows.now ≤ set_width) × (data_symbols ≤ set_width) × Below data_symbols (numerals rows.now) }
+    ensures { Images (survivors (either (numeral known) (numeral wanted)) (numerals rows.now)) (has 0) (length result.items) (numerals result.items) }
 {
-    let involved = surviving_rows(rows, symbols, union(known, wanted));
-    let images = columns(involved, symbols, data_symbols);
-    let apart = spread(images, data_symbols, known);
-    nonempty_sets(apart, data_symbols)
+    let involved = surviving_rows(rows, union(known, wanted));
+    let mut columns = columns(involved.as_slice(), data_symbols);
+    let images = columns.as_mut_slice();
+    spread(images, known);
+    nonempty_sets(images)
 }
 
 // What a search found, and how many branchings are left of those that it might make.
@@ -249,26 +203,24 @@ struct Searching {
     branchings: usize,
 }
 
-// The smaller of `best` and the smallest set that is enough, has what is taken, and otherwise only what may be taken.
+// The smaller of `best` and the smallest set that is enough, has what is taken, and otherwise only what may be taken. The images are spread where they are.
 fn search(
-    images: BitSets,
-    total: usize,
+    images: &mut [BitSet],
     wanted: BitSet,
     taken: BitSet,
     allowed: BitSet,
     best: BitSet,
     branchings: usize,
 ) -> Searching
-    requires { (total ≤ set_width) × OfWidth wanted × OfWidth taken × OfWidth allowed × OfWidth best }
+    requires { (length images.old ≤ set_width) × OfWidth wanted × OfWidth taken × OfWidth allowed × OfWidth best }
     ensures small { OfWidth result.best }
     ensures fewer { result.branchings ≤ branchings }
     ensures counted { branchings < result.branchings + 2 ^ size (has (numeral allowed)) }
-    ensures searched { (rows : List ℕ) → Images rows (has (numeral taken)) total (numerals images)
+    ensures searched { (rows : List ℕ) → Images rows (has (numeral taken)) (length images.old) (numerals images.old)
         → Searched rows (numeral wanted) (numeral taken) (numeral allowed) (numeral best) (numeral result.best) result.branchings }
 {
-    let apart = spread(images, total, allowed);
-    let at = next_image(apart, total, wanted, allowed);
-    if total <= at {
+    spread(images, allowed);
+    let Some(at) = next_image(images, wanted, allowed) else {
         if count(taken) < count(best) {
             return Searching {
                 best: taken,
@@ -276,8 +228,8 @@ fn search(
             };
         }
         return Searching { best, branchings };
-    }
-    let image = apart[at];
+    };
+    let image = images[at];
     let element = lowest_from(common(image, allowed), 0);
     if SET_WIDTH <= element {
         return Searching { best, branchings };
@@ -285,41 +237,40 @@ fn search(
     if count(best) <= count(taken) + 1 {
         return Searching { best, branchings };
     }
-    if count(best) - count(taken) <= symbols_needed(apart, total, wanted, allowed) {
+    if count(best) - count(taken) <= symbols_needed(images, wanted, allowed) {
         return Searching { best, branchings };
     }
     if branchings == 0 {
         return Searching { best, branchings };
     }
     let left = sum(allowed, with(empty(), element));
-    let reduced = reduce(apart, total, image, element);
+    let mut copies = listed(images);
+    let reduced = copies.as_mut_slice();
+    reduce(reduced, image, element);
     let more = with(taken, element);
-    let one = search(reduced, total, wanted, more, left, best, branchings - 1);
-    search(apart, total, wanted, taken, left, one.best, one.branchings)
+    let one = search(reduced, wanted, more, left, best, branchings - 1);
+    search(images, wanted, taken, left, one.best, one.branchings)
 }
 
 // Of the known symbols a set that is enough for the wanted ones, all known symbols where these are not enough. It is a smallest one where the branchings are as
 // many as the known symbols have subsets; the search makes no more.
 pub fn fewest(
-    rows: BitSets,
-    symbols: usize,
+    rows: &[BitSet],
     data_symbols: usize,
     known: BitSet,
     wanted: BitSet,
     branchings: usize,
 ) -> BitSet
-    requires { (symbols ≤ set_width) × (data_symbols ≤ set_width) × Below data_symbols (take symbols (numerals rows))
-        × PlacesBelow symbols (has (numeral known)) × PlacesBelow symbols (has (numeral wanted)) }
-    ensures { Fewest (take symbols (numerals rows)) (has (numeral known)) (has (numeral wanted)) branchings (has (numeral result)) }
+    requires { (length rows.now ≤ set_width) × (data_symbols ≤ set_width) × Below data_symbols (numerals rows.now)
+        × PlacesBelow (length rows.now) (has (numeral known)) × PlacesBelow (length rows.now) (has (numeral wanted)) }
+    ensures { Fewest (numerals rows.now) (has (numeral known)) (has (numeral wanted)) branchings (has (numeral result)) }
 {
-    let array = below(symbols);
+    let array = below(rows.len());
     let survivors = common(known, array);
     let targets = common(wanted, array);
-    let images = first_images(rows, symbols, data_symbols, survivors, targets);
-    let sets = images.sets;
+    let mut images = first_images(rows, data_symbols, survivors, targets);
     let found = search(
-        sets,
-        images.count,
+        images.as_mut_slice(),
         targets,
         empty(),
         survivors,

@@ -1,30 +1,28 @@
 -- `fewest::columns` meets its contract. Assumes nothing.
-use mathlib.Core.Path.{◌≡◌, ap, ◌∙◌}
-use mathlib.Core.List.{List}
-use Prim.Native.Nat.{ℕ}
+use mathlib.Core.Path.{ap, ◌∙◌}
 use native.Mathlib.Omega.{arith}
-use lib.ListN.{length, get_or, take, length-set, length-replicate}
-use Rattle.bits.specs.BitSets.{has}
-use Rattle.bits.specs.Numerals.{set_width, numerals}
-use Rattle.bits.proofs.NumeralLaws.{numerals_set}
+use lib.ListN.{length}
+use Rattle.bits.specs.Numerals.{numerals}
+use Rattle.bits.proofs.NumeralLaws.{length_numerals, numerals_append}
+use Rattle.fewest.specs.InnerFewest.{IsColumn}
 use Rattle.fewest.proofs.LoopLaws.{entries_more}
 use Rattle.fewest.proofs.columns.Goals as goal
 
-pub loop-i-init : goal.loop-i-init
-loop-i-init c = (omega arith, ap (λ (l : List ℕ). length l) c.empty_sets-images.ensures ∙ length-replicate {A = ℕ} set_width 0, λ j h. absurd (omega arith))
+pub loop-bit-init : goal.loop-bit-init
+loop-bit-init c = record { count = ap length c.new-images.ensures; columns = λ j h. absurd (omega arith) }
 
 pub column-requires : goal.column-requires
-column-requires c = (omega arith, omega arith)
+column-requires c = (c.requires.0, omega arith)
 
-pub loop-i-preserved : goal.loop-i-preserved
-loop-i-preserved c =
-    let a = c.args in
-    let loop = c.loop-i in
-    let stored = numerals_set loop.images loop.i c.column.result in (
-      omega arith,
-      ap (λ (l : List ℕ). length l) stored ∙ length-set (numerals loop.images) loop.i _ ∙ loop.invariant.1,
-      rw stored (entries_more (λ (j entry : ℕ). (s : ℕ) → has entry s ≡ has (get_or (take a.symbols (numerals a.rows)) s 0) j) (numerals loop.images) loop.i (omega (arith, loop.invariant.1)) loop.invariant.2 c.column.ensures),
-    )
+pub loop-bit-preserved : goal.loop-bit-preserved
+loop-bit-preserved c =
+    let loop = c.loop-bit in
+    record {
+      count = omega arith;
+      columns =
+          rw (ap numerals c.push.ensures.items ∙ numerals_append loop.images.items c.column.result)
+          (entries_more (IsColumn (numerals c.args.rows.now)) (numerals loop.images.items) loop.bit (length_numerals loop.images.items ∙ loop.invariant.count) loop.invariant.columns c.column.ensures);
+    }
 
 pub returns : goal.returns
-returns c = λ i h. c.loop-i.invariant.2 i (omega arith)
+returns c = record { all = omega arith; columns = λ i h. c.loop-bit.invariant.columns i (omega arith) }

@@ -1,10 +1,12 @@
 -- `fewest::fewest` meets its contract: the search from the columns, with nothing taken and all known symbols allowed. Assumes nothing.
 use mathlib.Core.Path.{sym, ap, ◌∙◌, subst}
 use mathlib.Core.Bool.{Bool}
+use mathlib.Core.List.{List}
 use Prim.Native.Nat.{ℕ, ◌^◌, ◌<◌}
 use native.Mathlib.Omega.{arith}
 use lib.Bits.{bit_and}
-use lib.ListN.{take}
+use lib.ListN.{length}
+use Rattle.bits.specs.declared.BitSet.{BitSet}
 use Rattle.bits.specs.BitSets.{has}
 use Rattle.bits.specs.Numerals.{set_width, numeral, numerals}
 use Rattle.bits.proofs.Booleans.{or_true_if_left, or_true_if_right}
@@ -20,9 +22,9 @@ search-found-requires c =
     let array = c.below-array.ensures in
     let survivors = c.common-survivors.ensures ∙ ap (bit_and (numeral args.known)) array in
     let targets = c.common-targets.ensures ∙ ap (bit_and (numeral args.wanted)) array in
-    let survivors_small = subst (λ (x : ℕ). x < 2 ^ set_width) (sym survivors) (cut_small (numeral args.known) args.symbols c.requires.0) in (
-      c.first_images-images.ensures.few,
-      subst (λ (x : ℕ). x < 2 ^ set_width) (sym targets) (cut_small (numeral args.wanted) args.symbols c.requires.0),
+    let survivors_small = subst (λ (x : ℕ). x < 2 ^ set_width) (sym survivors) (cut_small (numeral args.known) (length args.rows.now) c.requires.0) in (
+      omega (arith, c.as_mut_slice.ensures.fits),
+      subst (λ (x : ℕ). x < 2 ^ set_width) (sym targets) (cut_small (numeral args.wanted) (length args.rows.now) c.requires.0),
       omega (arith, c.empty.ensures),
       survivors_small,
       survivors_small,
@@ -31,12 +33,12 @@ search-found-requires c =
 pub returns : goal.returns
 returns c =
     let args = c.args in
-    let rows = take args.symbols (numerals args.rows) in
+    let rows = numerals args.rows.now in
     let array = c.below-array.ensures in
     let common = c.common-survivors in
     let common2 = c.common-targets in
-    let same_known = ap has (common.ensures ∙ ap (bit_and (numeral args.known)) array) ∙ cut_same (numeral args.known) args.symbols c.requires.0 c.requires.3 in
-    let same_wanted = ap has (common2.ensures ∙ ap (bit_and (numeral args.wanted)) array) ∙ cut_same (numeral args.wanted) args.symbols c.requires.0 c.requires.4 in
+    let same_known = ap has (common.ensures ∙ ap (bit_and (numeral args.known)) array) ∙ cut_same (numeral args.known) (length args.rows.now) c.requires.0 c.requires.3 in
+    let same_wanted = ap has (common2.ensures ∙ ap (bit_and (numeral args.wanted)) array) ∙ cut_same (numeral args.wanted) (length args.rows.now) c.requires.0 c.requires.4 in
     let involved = either (numeral common.result) (numeral common2.result) in
     let first = c.first_images-images in
     fewest_by_involved rows involved
@@ -45,4 +47,5 @@ returns c =
     (fewest_of_array (survivors involved rows) (numeral args.known) (numeral args.wanted) _ _ _ _ args.branchings _ c.empty.ensures same_known same_wanted
     c.search-found.ensures.counted
     (c.search-found.ensures.searched (survivors involved rows)
-    (subst (λ (x : ℕ). Images (survivors involved rows) (has x) first.result.count (numerals first.result.sets)) (sym c.empty.ensures) first.ensures.images)))
+    (subst (λ (x : ℕ). Images (survivors involved rows) (has x) (length c.as_mut_slice.result.now) (numerals c.as_mut_slice.result.now)) (sym c.empty.ensures)
+    (subst (λ (l : List BitSet). Images (survivors involved rows) (has 0) (length l) (numerals l)) (sym c.as_mut_slice.ensures.value) first.ensures))))

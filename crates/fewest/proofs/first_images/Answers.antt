@@ -1,20 +1,18 @@
 -- `fewest::first_images` meets its contract: the columns of the rows involved, spread, without the empty ones. Assumes nothing.
-use mathlib.Core.Path.{◌≡◌, ap, ◌∙◌, subst, fun_ext}
+use mathlib.Core.Path.{◌≡◌, sym, ap, ◌∙◌, subst, fun_ext}
 use mathlib.Core.Bool.{Bool}
 use mathlib.Core.List.{List}
 use Prim.Native.Nat.{ℕ, ◌<◌}
 use native.Mathlib.Omega.{arith}
-use lib.ListN.{get_or, take}
-use lib.Seq.{length-take-le}
+use lib.ListN.{length, get_or}
 use Rattle.bits.specs.BitSets.{has}
 use Rattle.bits.specs.Numerals.{numeral, numerals}
-use Rattle.bits.proofs.NumeralLaws.{array_length, length_numerals}
+use Rattle.bits.specs.declared.BitSet.{BitSet}
+use Rattle.bits.proofs.NumeralLaws.{length_numerals}
 use Rattle.bits.proofs.SetLaws.{has_union}
 use Rattle.gf2.specs.InnerSubsetPlans.{survivors}
 use Rattle.gf2.proofs.PlanningLaws.{survivors_below}
-use Rattle.solve.proofs.GatherLaws.{length_nonempty}
-use Rattle.solve.proofs.RowLaws.{take_known}
-use Rattle.fewest.specs.InnerFewest.{IsColumn, either}
+use Rattle.fewest.specs.InnerFewest.{IsColumn, Images, either}
 use Rattle.fewest.proofs.FirstImageLaws.{images_nonempty}
 use Rattle.fewest.proofs.LoopLaws.{columns_images}
 use Rattle.fewest.proofs.first_images.Goals as goal
@@ -22,20 +20,23 @@ use Rattle.fewest.proofs.first_images.Goals as goal
 pub returns : goal.returns
 returns c =
     let args = c.args in
-    let rows = take args.symbols (numerals args.rows) in
+    let rows = numerals args.rows.now in
     let involved = either (numeral args.known) (numeral args.wanted) in
-    let joined : has (numeral c.union.result) ≡ involved =
-    ap has c.union.ensures ∙ fun_ext (has_union (numeral args.known) (numeral args.wanted)) in
-    let cut : take args.symbols (numerals c.surviving_rows-involved.result) ≡ survivors involved rows =
-    ap (take args.symbols) c.surviving_rows-involved.ensures
-    ∙ take_known args.symbols (numerals args.rows) (has (numeral c.union.result)) (omega (arith, length_numerals args.rows, array_length args.rows _ c.well_formed.0))
-    ∙ ap (λ (known : ℕ → Bool). survivors known rows) joined in
-    let apart = c.spread-apart.result in
-    let gathered = c.nonempty_sets in record {
-      few = omega (arith, gathered.ensures.count, length_nonempty (take args.data_symbols (numerals apart)), length-take-le args.data_symbols (numerals apart) (omega (arith, c.spread-apart.ensures.held)));
-      images = images_nonempty (survivors involved rows) (has 0) args.data_symbols (numerals apart) (omega (arith, c.spread-apart.ensures.held))
-          (c.spread-apart.ensures.kept (survivors involved rows) (has 0)
-          (columns_images (survivors involved rows) args.data_symbols (numerals c.columns-images.result) (survivors_below args.data_symbols involved rows c.requires.2)
-          (subst (λ (cut_rows : List ℕ). (i : ℕ) → i < args.data_symbols → IsColumn cut_rows i (get_or (numerals c.columns-images.result) i 0)) cut c.columns-images.ensures)))
-          gathered.ensures.count gathered.ensures.sets;
-    }
+    let joined : has (numeral c.union.result) ≡ involved = ap has c.union.ensures ∙ fun_ext (has_union (numeral args.known) (numeral args.wanted)) in
+    let cut : numerals c.as_slice.result.now ≡ survivors involved rows =
+    ap numerals c.as_slice.ensures.value ∙ c.surviving_rows-involved.ensures ∙ ap (λ (known : ℕ → Bool). survivors known rows) joined in
+    let columns = c.columns-columns in
+    let width = args.data_symbols in
+    let apart = c.spread.new.images in
+    let first : Images (survivors involved rows) (has 0) width (numerals columns.result.items) =
+    columns_images (survivors involved rows) width (numerals columns.result.items) (survivors_below width involved rows c.requires.2)
+    (subst (λ (cut_rows : List ℕ). (i : ℕ) → i < width → IsColumn cut_rows i (get_or (numerals columns.result.items) i 0)) cut columns.ensures.columns) in
+    let all : length c.as_mut_slice-images.result.now ≡ width = ap length c.as_mut_slice-images.ensures.value ∙ columns.ensures.all in
+    let spread : Images (survivors involved rows) (has 0) (length (numerals apart)) (numerals apart) =
+    subst (λ (count : ℕ). Images (survivors involved rows) (has 0) count (numerals apart)) (omega (arith, length_numerals apart, all))
+    (c.spread.ensures (survivors involved rows) (has 0)
+    (subst (λ (l : List BitSet). Images (survivors involved rows) (has 0) (length l) (numerals l)) (sym c.as_mut_slice-images.ensures.value)
+    (subst (λ (count : ℕ). Images (survivors involved rows) (has 0) count (numerals columns.result.items)) (sym columns.ensures.all) first))) in
+    let gathered = c.nonempty_sets in
+    subst (λ (count : ℕ). Images (survivors involved rows) (has 0) count (numerals gathered.result.items)) (length_numerals gathered.result.items)
+    (subst (λ (l : List ℕ). Images (survivors involved rows) (has 0) (length l) l) (sym gathered.ensures) (images_nonempty (survivors involved rows) (has 0) (numerals apart) spread))
