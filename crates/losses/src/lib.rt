@@ -42,12 +42,9 @@ pub fn lost_symbols(layout: Layout, disks: &[u8]) -> BitSet
     ensures lost { (s : ℕ) → has (numeral result) s ≡ lost layout disks.now s }
     ensures small { numeral result < 2 ^ set_width }
 {
-    let count = disks.len();
     let mut gone = empty();
-    let mut i = 0;
-    while i < count {
-        gone = union(gone, strip_of(layout, byte_at(disks, i)));
-        i += 1;
+    for disk in disks {
+        gone = union(gone, strip_of(layout, usize::from(*disk)));
     }
     gone
 }
@@ -68,7 +65,7 @@ fn wanted_symbols(gone: BitSet, list: &[u8]) -> BitSet
     requires { (i : ℕ) → i < length list.now → get_or list.now i 0 < set_width }
     ensures { (s : ℕ) → has (numeral result) s ≡ cond (eqb (length list.now) 0) (has (numeral gone) s) (listed list.now s) }
 {
-    if list.len() == 0 {
+    if list.is_empty() {
         return gone;
     }
     set_of(list)

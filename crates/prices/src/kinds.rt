@@ -8,36 +8,27 @@ use crate::{DiskState, DiskStates};
 fn kind_at(kinds: &[u8], disk: usize) -> u8
     ensures { result ≡ slice_index_or kinds.now disk no_kind }
 {
-    if disk < kinds.len() {
-        return kinds[disk];
-    }
-    3
+    kinds.get(disk).copied().unwrap_or(3)
 }
 
 // The price or the factor of a disk; -1, which is neither, where it isn't there.
+#[tactic(auto, using(crate::proofs::KindLaws::no_number_is))]
 fn number_at(numbers: &[f64], disk: usize) -> f64
     ensures { result ≡ slice_index_or numbers.now disk no_number }
 {
-    if disk < numbers.len() {
-        return numbers[disk];
-    }
-    -1.0
+    numbers.get(disk).copied().unwrap_or(-1.0)
 }
 
 // The state of a disk by its kind, its price and its factor; one that no disk can be in where the kind is another.
 fn state_of_kind(kind: u8, price: f64, factor: f64) -> DiskState
     ensures { result ≡ state_of_kind kind price factor }
 {
-    if kind == 0 {
-        return DiskState::Away;
+    match kind {
+        0 => DiskState::Away,
+        1 => DiskState::Idle { price },
+        2 => DiskState::Busy { price, factor },
+        _ => DiskState::Idle { price: -1.0 },
     }
-    if kind == 1 {
-        return DiskState::Idle { price };
-    }
-    if kind == 2 {
-        return DiskState::Busy { price, factor };
-    }
-    DiskState::Idle { price: -1.0 }
 }
 
 // The states of all disks that an array can have. What a kind doesn't use is not looked at; where an entry that it uses isn't there, or the kind is another,
@@ -47,12 +38,10 @@ pub fn states_told(kinds: &[u8], prices: &[f64], factors: &[f64]) -> DiskStates
     ensures missing { NoStateWhereMissing kinds.now prices.now factors.now result }
 {
     let mut states = [DiskState::Away; 64];
-    let mut disk = 0;
-    while disk < 64 {
+    for disk in 0..64 {
         let kind = kind_at(kinds, disk);
         let state = state_of_kind(kind, number_at(prices, disk), number_at(factors, disk));
         states[disk] = state;
-        disk += 1;
     }
     states
 }

@@ -43,30 +43,22 @@ pub fn strips_of(layout: Layout) -> BitSets
     requires { LayoutWithin layout }
     ensures { Strips layout (numerals result) }
 {
-    let disks = layout.disks;
     let mut strips = empty_sets();
-    let mut disk = 0;
-    while disk < disks {
-        let strip = strip_of(layout, disk);
-        strips[disk] = strip;
-        disk += 1;
+    for disk in 0..layout.disks {
+        strips[disk] = strip_of(layout, disk);
     }
     strips
 }
 
 // The charges of the disks, each for the symbols that are read of its strip, added in disk order from zero. Each sum is rounded once.
-pub fn sum_of(layout: Layout, states: DiskStates, strips: BitSets, read: BitSet) -> f64
-    requires { LayoutWithin layout × Strips layout (numerals strips) }
-    ensures { result ≡ sum_of layout states (has (numeral read)) }
+pub fn sum_of(layout: Layout, states: &DiskStates, strips: &BitSets, read: BitSet) -> f64
+    requires { LayoutWithin layout × Strips layout (numerals strips.now) }
+    ensures { result ≡ sum_of layout states.now (has (numeral read)) }
 {
-    let disks = layout.disks;
     let mut sum = 0.0;
-    let mut disk = 0;
-    while disk < disks {
-        let state = states[disk];
+    for disk in 0..layout.disks {
         let reads = count(common(read, strips[disk]));
-        sum = sum + charge(state, reads);
-        disk += 1;
+        sum += charge(states[disk], reads);
     }
     sum
 }

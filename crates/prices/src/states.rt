@@ -33,28 +33,18 @@ fn is_state(state: DiskState) -> bool
 pub fn is_away(state: DiskState) -> bool
     ensures { result ≡ is_away state }
 {
-    match state {
-        DiskState::Away => true,
-        DiskState::Idle { price: _ } => false,
-        DiskState::Busy {
-            price: _,
-            factor: _,
-        } => false,
-    }
+    matches!(state, DiskState::Away)
 }
 
 // The lowest of so many disks that can't be in its state; their number where there is no such disk. States from there on are not looked at.
-pub fn first_bad_state(states: DiskStates, disks: usize) -> usize
+pub fn first_bad_state(states: &DiskStates, disks: usize) -> usize
     requires { disks ≤ 64 }
-    ensures { result ≡ first_bad_state states disks }
+    ensures { result ≡ first_bad_state states.now disks }
 {
-    let mut lowest = 0;
-    while lowest < disks {
-        let state = states[lowest];
-        if !is_state(state) {
-            return lowest;
+    for disk in 0..disks {
+        if !is_state(states[disk]) {
+            return disk;
         }
-        lowest += 1;
     }
     disks
 }

@@ -8,7 +8,7 @@ use Rattle.prices.proofs.PriceLaws.{stored_more}
 use Rattle.prices.proofs.kinds.states_told.Goals as goal
 
 pub loop-disk-init : goal.loop-disk-init
-loop-disk-init c = (omega arith, refl, λ d below. absurd (omega arith))
+loop-disk-init c = (refl, λ d below. absurd (omega arith))
 
 pub loop-disk-preserved : goal.loop-disk-preserved
 loop-disk-preserved c =
@@ -18,9 +18,8 @@ loop-disk-preserved c =
     let told = state_told a.kinds.now a.prices.now a.factors.now in
     let state-is : c.state_of_kind-state.result ≡ told loop.disk =
     c.state_of_kind-state.ensures ∙ rw (c.kind_at-kind.ensures, c.number_at.ensures, c.number_at-in-loop-disk.ensures) in (
-      omega arith,
-      length-set loop.states loop.disk c.state_of_kind-state.result ∙ loop.invariant.1,
-      stored_more Away (λ d state. state ≡ told d) loop.states loop.disk c.state_of_kind-state.result (omega (arith, loop.invariant.1, taken)) loop.invariant.2 state-is,
+      length-set loop.states loop.disk c.state_of_kind-state.result ∙ loop.invariant.0,
+      stored_more Away (λ d state. state ≡ told d) loop.states loop.disk c.state_of_kind-state.result (omega (arith, loop.invariant.0, taken)) loop.invariant.1 state-is,
     )
 
 pub returns : goal.returns
@@ -28,4 +27,4 @@ returns c =
     let a = c.args in
     let loop = c.loop-disk in
     let told = state_told a.kinds.now a.prices.now a.factors.now in
-    let each : (d : ℕ) → d < 64 → state_of loop.states d ≡ told d = λ d below. loop.invariant.2 d (omega (arith, c.loop-disk-test.false)) in record { told = all_stored told loop.states 64 loop.invariant.1 each; missing = λ d below missing. ap is_state (each d below) ∙ no_state_if_missing a.kinds.now a.prices.now a.factors.now d missing }
+    let each : (d : ℕ) → d < 64 → state_of loop.states d ≡ told d = λ d below. loop.invariant.1 d (omega (arith, c.loop-disk-test.false)) in record { told = all_stored told loop.states 64 loop.invariant.0 each; missing = λ d below missing. ap is_state (each d below) ∙ no_state_if_missing a.kinds.now a.prices.now a.factors.now d missing }
