@@ -1,99 +1,48 @@
 -- Laws of swaps. Assumes nothing.
 use mathlib.Core.Path.{◌≡◌, refl, sym, ap, ap₂, ◌∙◌, subst}
-use mathlib.Core.Bool.{Bool, true, false, true≢false}
+use mathlib.Core.Bool.{Bool, true, false, not, true≢false}
 use mathlib.Core.List.{List}
-use Prim.Native.Nat.{ℕ, ◌+◌, ◌-◌, ◌≤◌, ◌<◌}
+use Prim.Native.Nat.{ℕ, ◌+◌, ◌≤◌, ◌<◌}
 use native.Mathlib.Numerals.{add-one}
 use native.Mathlib.Omega.{arith}
 use lib.Bits.{bit_or, bit_xor}
 use lib.Ieee.{Float, lt}
-use lib.ListN.{length, get_or, set, take, length-take}
-use lib.Seq.{get_or-take, length-take-le, get_or-set_same, get_or-set_other, set_out}
+use lib.ListN.{length, get_or, set}
+use lib.Seq.{get_or-set_same, get_or-set_other, set_out}
 use native.Mathlib.Decide.{dec_lt}
 use borrow.Author.Tests.{eqb-true, eqb-false}
 use lib.Dec.{eqb}
-use denote.Laws.{Is, valss}
-use denote.Struct.Declared.{fields, row}
-use mir.Val.{Val}
 use Rattle.bits.specs.BitSets.{has}
-use Rattle.bits.specs.Numerals.{set_width, numerals}
-use Rattle.bits.proofs.NumeralLaws.{array_length, length_numerals}
-use Rattle.solve.proofs.set_lists.SetList.TheLaws.{the_laws}
-use borrow.Struct.Member.{are_at}
-use denote.Struct.Laws.{spells, owed}
-use Rattle.solve.specs.declared.set_lists.SetList.{SetList}
-use Rattle.solve.specs.contracts.set_lists.SetList.{the_type}
-use Rattle.bits.specs.Lists.{first_from}
-use Rattle.bits.proofs.SearchLaws.{first_from_holds, none_if_first_from_behind}
-use Rattle.codes.specs.declared.Layout.{Layout}
+use Rattle.std.specs.Prelude.{Option, Some, None}
+use Rattle.std.specs.Option.{is_some}
 use Rattle.gf2.specs.Plans.{PlacesBelow}
 use Rattle.prices.specs.Prices.{sum_of}
-use Rattle.prices.specs.declared.DiskState.{DiskState}
 use Rattle.prices.proofs.FloatOrder.{lt_transitive, lt_irreflexive, lt_asymmetric}
 use Rattle.swaps.specs.Swaps.{Terms, read_by, cost_of, swapped, lowers, Made, AfterSwaps, none, one_more, NoSwapLowers, most_swaps, Settled}
 use Rattle.swaps.specs.InnerSwaps.{lowers_with, LoweringAmong, Lowering}
 use Rattle.swaps.specs.declared.Swap.{Swap}
-use Rattle.swaps.specs.declared.Swap.TheVariants.{Of, Nothing}
 use Rattle.swaps.proofs.UnionLaws.{read_with}
 
 -- ------------------------------------------------------------------
 -- The search for a swap
 
--- A list that a function is handed holds as many sets as its type says
-pub list_length : (list : SetList) (vs : List Val) → Is (row the_type) list vs → length (numerals list.sets) ≡ set_width
-list_length list vs good = length_numerals list.sets ∙ array_length list.sets _ (are_at (fields the_type) (the_type.to list) (valss (fields the_type) (spells the_type.parts the_laws) (the_type.to list)) 1 (owed the_type the_laws list vs good))
-
--- The terms with the first so many equations
-abbrev pub listed_terms : Layout → List DiskState → List ℕ → ℕ → (ℕ → Bool) → Terms
-listed_terms layout states all count wanted = record { layout = layout; states = states; equations = take count all; wanted = wanted }
-
-module _ (layout : Layout) (states : List DiskState) (all : List ℕ) (count : ℕ) (wanted : ℕ → Bool) (fits : count ≤ length all) (sets : List ℕ)
-    (target : ℕ) (within : target < length sets) (others own : ℕ) (cost : Float)
-    (others_are : others ≡ read_by (set sets target 0)) (own_is : own ≡ get_or sets target 0)
-    (cost_is : cost ≡ cost_of (listed_terms layout states all count wanted) sets) where
+module _ (terms : Terms) (sets : List ℕ) (target : ℕ) (within : target < length sets) (others own : ℕ) (cost : Float)
+    (others_are : others ≡ read_by (set sets target 0)) (own_is : own ≡ get_or sets target 0) (cost_is : cost ≡ cost_of terms sets) where
   -- The test is whether the swap lowers the sum
-  tested_is_lowers : (e : ℕ) → e < count → lowers_with layout states all others own cost e ≡ lowers (listed_terms layout states all count wanted) sets target e
-  tested_is_lowers e below =
+  pub tested_is_lowers : (e : ℕ) → lowers_with terms others own cost e ≡ lowers terms sets target e
+  tested_is_lowers e =
       ap₂ lt
-      (ap (λ (n : ℕ). sum_of layout states (has n))
-      (ap₂ bit_or others_are (ap₂ bit_xor own_is (sym (get_or-take count all e 0 below)))
-      ∙ sym (read_with sets target (bit_xor (get_or sets target 0) (get_or (take count all) e 0)) within)))
+      (ap (λ (n : ℕ). sum_of terms.layout terms.states (has n))
+      (ap₂ (λ (o s : ℕ). bit_or o (bit_xor s (get_or terms.equations e 0))) others_are own_is
+      ∙ sym (read_with sets target (bit_xor (get_or sets target 0) (get_or terms.equations e 0)) within)))
       cost_is
 
-  -- An equation that is found makes a swap
-  pub found_makes : (found : ℕ) → found ≡ first_from (lowers_with layout states all others own cost) 0 count → found < count → wanted target ≡ true
-      → Made (listed_terms layout states all count wanted) sets target found
-  found_makes found found-is below is_wanted =
-      let here : lowers_with layout states all others own cost found ≡ true =
-      subst (λ (e : ℕ). lowers_with layout states all others own cost e ≡ true) (sym found-is)
-      (first_from_holds (lowers_with layout states all others own cost) count 0 (omega (arith, found-is, below))) in
-      record {
-        of_wanted = is_wanted;
-        of_list = omega (arith, length-take-le count all fits, below);
-        lower = sym (tested_is_lowers found below) ∙ here;
-      }
-
-  -- Where none is found, no swap of this symbol lowers the sum
-  pub none_lowers : (found : ℕ) → found ≡ first_from (lowers_with layout states all others own cost) 0 count → count ≤ found
-      → (e : ℕ) → e < length (take count all) → lowers (listed_terms layout states all count wanted) sets target e ≡ false
-  none_lowers found found-is behind e listed =
-      let below : e < count = omega (arith, length-take-le count all fits, listed) in
-      sym (tested_is_lowers e below)
-      ∙ none_if_first_from_behind (lowers_with layout states all others own cost) count 0 e (omega (arith, found-is, behind)) (omega arith) (omega arith)
-
 module _ (terms : Terms) (sets : List ℕ) (from symbols : ℕ) where
-  -- What is found from a symbol on may be made
-  pub found_late : (late : Swap) {target equation : ℕ} → late ≡ Of target equation → LoweringAmong terms sets from symbols late → Lowering terms sets late
-  found_late (Of target equation) found among = among
-  found_late Nothing found among =
-      let none : ◌≡◌ {A = ℕ} 0 1 = cc in
-      absurd (omega arith)
-
   -- Where there is none, what is found before it; where neither has a swap, none lowers the sum
-  pub found_early : PlacesBelow symbols terms.wanted → LoweringAmong terms sets from symbols Nothing → (early : Swap) → LoweringAmong terms sets 0 from early
+  pub found_early : PlacesBelow symbols terms.wanted → LoweringAmong terms sets from symbols None → (early : Option Swap) → LoweringAmong terms sets 0 from early
       → Lowering terms sets early
-  found_early below none_late (Of target equation) among = among
-  found_early below none_late Nothing none_early = λ target equation is_wanted listed. by_side target equation is_wanted listed (dec_lt target from)
+  found_early below none_late (Some swap) among = among
+  found_early below none_late None none_early = λ target equation is_wanted listed. by_side target equation is_wanted listed (dec_lt target from)
     where
       by_side : (target equation : ℕ) → terms.wanted target ≡ true → equation < length terms.equations → Dec (target < from)
           → lowers terms sets target equation ≡ false
@@ -103,21 +52,11 @@ module _ (terms : Terms) (sets : List ℕ) (from symbols : ℕ) where
 -- ------------------------------------------------------------------
 -- One more swap
 
--- An equation of a part of a list is one of so many
-pub listed_below : (count : ℕ) (all : List ℕ) (e : ℕ) → e < length (take count all) → e < count
-listed_below count all e h = omega (arith, length-take count all, h)
-
 pub after_one_more : {terms : Terms} {start sets : List ℕ} {swaps target equation : ℕ} → AfterSwaps terms start swaps sets → Made terms sets target equation
     → (new : List ℕ) → new ≡ swapped terms sets target equation → AfterSwaps terms start (swaps + 1) new
 after_one_more {terms = terms} {start = start} {sets = sets} {swaps = swaps} {target = target} {equation = equation} made more new New-is =
     subst (AfterSwaps terms start (swaps + 1)) (sym New-is)
     (subst (λ (n : ℕ). AfterSwaps terms start n (swapped terms sets target equation)) (sym (add-one swaps)) (one_more made more))
-
-pub one_more_fits : (swaps : ℕ) → swaps ≤ most_swaps → (swaps ≡ most_swaps → ⊥) → swaps + 1 ≤ most_swaps
-one_more_fits swaps few not_last = omega arith
-
-pub fewer_left : (swaps : ℕ) → swaps ≤ most_swaps → (swaps ≡ most_swaps → ⊥) → most_swaps - (swaps + 1) < most_swaps - swaps
-fewer_left swaps few not_last = omega arith
 
 -- ------------------------------------------------------------------
 -- What swaps lead to
@@ -187,3 +126,11 @@ stopped_if_found {target = target} {equation = equation} made last cost_is more 
       );
       stopped_after = λ no. last;
     }
+
+-- After the last swap the answer is settled exactly where there is no other
+pub settled_by_next : {terms : Terms} {start sets : List ℕ} {cost : Float} {swaps : ℕ} (next : Option Swap) (settled : Bool) → is_some next ≡ not settled
+    → Lowering terms sets next → AfterSwaps terms start swaps sets → swaps ≡ most_swaps → cost ≡ cost_of terms sets → Settled terms start sets cost swaps settled
+settled_by_next (Some swap) true tested more made last cost_is = absurd (true≢false tested)
+settled_by_next (Some swap) false tested more made last cost_is = stopped_if_found made last cost_is more
+settled_by_next None true tested none_lower made last cost_is = settled_if_none made (omega (arith, last)) cost_is none_lower
+settled_by_next None false tested none_lower made last cost_is = absurd (true≢false (sym tested))

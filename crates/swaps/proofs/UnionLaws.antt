@@ -7,7 +7,7 @@ use native.Mathlib.Nat.{lt_of_lt_of_le, pow-suc}
 use native.Mathlib.Numerals.{add-one}
 use native.Mathlib.Omega.{arith}
 use lib.Bits.{bit_or, or_zero_l, or_comm, or_lt}
-use lib.ListN.{length, get_or, set, drop}
+use lib.ListN.{length, get_or, set, take, drop}
 use lib.Pow.{pow_mono, pow_pos}
 use Rattle.bits.specs.BitSets.{has}
 use Rattle.bits.proofs.Booleans.{bool_cases, or_true_if_left, or_true_if_right}
@@ -79,6 +79,16 @@ unfolding read_by
 read_with [] t x h = omega arith
 read_with (y ∷ ys) zero x h = or_comm x (read_by ys) ∙ ap (λ (n : ℕ). bit_or n x) (sym (or_zero_l (read_by ys)))
 read_with (y ∷ ys) (suc t) x h = ap (bit_or y) (read_with ys t x (omega arith)) ∙ sym (or_assoc y (read_by (set ys t 0)) x)
+
+-- Without one set: what those before it read, and those behind it
+pub read_without : (sets : List ℕ) (t : ℕ) → t < length sets → read_by (set sets t 0) ≡ bit_or (read_by (take t sets)) (read_by (drop (t + 1) sets))
+unfolding read_by
+read_without sets t h = rw (add-one t) (by_place sets t h)
+  where
+    by_place : (l : List ℕ) (i : ℕ) → i < length l → read_by (set l i 0) ≡ bit_or (read_by (take i l)) (read_by (drop (suc i) l))
+    by_place [] i h = omega arith
+    by_place (x ∷ xs) zero h = refl
+    by_place (x ∷ xs) (suc i) h = ap (bit_or x) (by_place xs i (omega arith)) ∙ sym (or_assoc x (read_by (take i xs)) (read_by (drop (suc i) xs)))
 
 -- What one set has is read
 pub read_if_in_set : (sets : List ℕ) (t s : ℕ) → has (get_or sets t 0) s ≡ true → has (read_by sets) s ≡ true

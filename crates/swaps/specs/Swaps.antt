@@ -5,6 +5,8 @@ use Rattle.std.specs.Prelude.{◌≡◌, Bool, true, false, List, [], ◌∷◌,
 use Rattle.std.specs.Int.Bits.{bit_or, bit_xor}
 use Rattle.std.specs.Float.Ieee.{lt}
 use Rattle.bits.specs.BitSets.{has}
+use Rattle.bits.specs.Numerals.{numeral}
+use Rattle.bits.specs.declared.BitSet.{BitSet}
 use Rattle.codes.specs.declared.Layout.{Layout}
 use Rattle.prices.specs.Prices.{sum_of}
 use Rattle.prices.specs.declared.DiskState.{DiskState}
@@ -15,6 +17,10 @@ pub record Terms : Type 0 where
   pub states : List DiskState
   pub equations : List ℕ
   pub wanted : ℕ → Bool
+
+-- The terms by their parts
+abbrev pub terms_of : Layout → List DiskState → List ℕ → BitSet → Terms
+terms_of layout states equations wanted = record { layout = layout; states = states; equations = equations; wanted = has (numeral wanted) }
 
 -- ------------------------------------------------------------------
 -- Sets, one a symbol, and what they cost
