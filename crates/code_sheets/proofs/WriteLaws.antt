@@ -17,11 +17,10 @@ unfolding code_sheet
 head_stored code buffer count e h = rw e (sets-eq (take 6 (code_sheet code)) buffer 0 h)
 
 -- The whole sheet: the head, then the rows behind it
-pub sheet_stored : (code : LinearCode) (buffer headed new : List ℕ) (count : ℕ) → count ≡ symbols code
-    → headed ≡ at_front (take 6 (code_sheet code)) buffer → new ≡ from_place 6 (row_bytes (take count code.rows)) headed
-    → new ≡ at_front (code_sheet code) buffer
+pub sheet_stored : (code : LinearCode) (buffer headed new rows : List ℕ) → rows ≡ matrix code
+    → headed ≡ at_front (take 6 (code_sheet code)) buffer → new ≡ from_place 6 (row_bytes rows) headed → new ≡ at_front (code_sheet code) buffer
 unfolding code_sheet
-sheet_stored code buffer headed new count e f g =
+sheet_stored code buffer headed new rows e f g =
     g
-    ∙ ap₂ (λ (n : ℕ) (b : List ℕ). from_place 6 (row_bytes (take n code.rows)) b) e f
+    ∙ ap₂ (λ (r b : List ℕ). from_place 6 (row_bytes r) b) e f
     ∙ at_front_append (take 6 (code_sheet code)) (row_bytes (matrix code)) buffer

@@ -65,12 +65,12 @@ fn write_row(row: BitSet, buffer: &mut [u8], at: usize)
     }
 }
 
-// N rows of 8 bytes behind the head.
-pub fn write_rows(rows: BitSets, symbols: usize, buffer: &mut [u8])
-    requires { (symbols ≤ set_width) × (sheet_length symbols ≤ length buffer.old) }
-    ensures { buffer.new ≡ from_place 6 (row_bytes (take symbols (numerals rows))) buffer.old }
+// The rows of 8 bytes behind the head.
+pub fn write_rows(rows: &[BitSet], buffer: &mut [u8])
+    requires { (length rows.now ≤ set_width) × (sheet_length (length rows.now) ≤ length buffer.old) }
+    ensures { buffer.new ≡ from_place 6 (row_bytes (numerals rows.now)) buffer.old }
 {
-    for symbol in 0..symbols {
-        write_row(rows[symbol], buffer, sheet_length(symbol));
+    for (symbol, row) in rows.iter().enumerate() {
+        write_row(*row, buffer, sheet_length(symbol));
     }
 }

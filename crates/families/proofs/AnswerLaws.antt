@@ -35,18 +35,18 @@ length_family_sheet family h =
 module _ (family : Family) (size : ℕ) where
   -- 36, whatever the buffer
   pub family_verdict_of_unlisted : listed family ≡ false → Refused (36 at 0) ≡ family_verdict family size
-  unfolding family_verdict or_if
+  unfolding family_verdict
   family_verdict_of_unlisted h = rw h
 
   -- 37 is all that is left to test
   pub family_verdict_of_listed : listed family ≡ true
       → or_if Fine (ltb size (length (family_sheet family))) (37 at 0) ≡ family_verdict family size
-  unfolding family_verdict or_if
+  unfolding family_verdict
   family_verdict_of_listed h = rw h
 
   family_verdict_of_short_buffer : listed family ≡ true → ltb size (length (family_sheet family)) ≡ true
       → Refused (37 at 0) ≡ family_verdict family size
-  unfolding family_verdict or_if
+  unfolding family_verdict
   family_verdict_of_short_buffer h e = rw (h, e)
 
   -- Where nothing is refused, the family is listed and its sheet has room

@@ -1,13 +1,12 @@
 -- A family's code sheet, written into a lent buffer (document 01, "What each call leaves"). "A family: 36, 37."
-use Rattle.std.specs.Prelude.{◌≡◌, not, List, [], ◌∷◌, ℕ, ltb, length, take}
+use Rattle.std.specs.Prelude.{◌≡◌, not, List, [], ◌∷◌, ℕ, ltb, length, take, Result, Ok, Err}
 use Rattle.refusals.specs.Orders.{Fault, ◌gets◌, first_of, if_fine, Outcome, Fine, Answer, Gives, Refuses, answering}
 use Rattle.refusals.specs.Refusals.{◌at◌, numbered}
+use Rattle.refusals.specs.declared.Refusal.{Refusal}
 use Rattle.sheets.specs.Buffers.{at_front}
 use Rattle.code_sheets.specs.CodeReading.{reading}
 use Rattle.code_sheets.specs.CodeSheets.{code_sheet}
 use Rattle.family_codes.specs.declared.Family.{Family}
-use Rattle.families.specs.declared.Written.{Written}
-use Rattle.families.specs.declared.Written.TheVariants.{Sheet, Refused}
 use Rattle.family_codes.specs.Families.{family_code, listed}
 
 -- The sheet to be written
@@ -25,10 +24,10 @@ family_faults family buffer_length =
 unfoldable pub family_verdict : Family → ℕ → Outcome
 family_verdict family buffer_length = first_of (family_faults family buffer_length)
 
--- What a `Written` stands for
-abbrev pub as_written : Written → Answer ℕ
-as_written (Sheet sheet_length) = Gives sheet_length
-as_written (Refused refusal) = Refuses (numbered refusal)
+-- What the call's result stands for
+abbrev pub as_written : Result ℕ Refusal → Answer ℕ
+as_written (Ok sheet_length) = Gives sheet_length
+as_written (Err refusal) = Refuses (numbered refusal)
 
 -- What the call answers: the sheet's length, or the refusal
 unfoldable pub family_answer : Family → ℕ → Answer ℕ
