@@ -20,4 +20,4 @@ bounds-buffer-4 c = simp length-set (omega arith)
 pub returns : goal.returns
 returns c =
     let a = c.args in
-    head_stored (linear a.code.now) a.buffer.now _ c.symbols-symbols.ensures (omega arith)
+    head_stored (linear a.code.now) a.buffer.now _ c.symbols.ensures (omega arith)
