@@ -1,15 +1,24 @@
 -- Laws of the call: what its verdict says, and what it leaves in the stripe. Assumes nothing.
-use mathlib.Core.Path.{◌≡◌, sym, ap, ◌∙◌}
+use mathlib.Core.Path.{◌≡◌, refl, sym, ap, ◌∙◌}
 use mathlib.Core.List.{List}
 use Prim.Native.Nat.{ℕ, ◌*◌, ◌≤◌}
+use native.Mathlib.Omega.{arith}
 use lib.ListN.{length}
+use lib.Seq.{length-take-le}
 use borrow.Author.Tests.{ltb-false, not-false, eqb-true}
-use Rattle.codes.specs.Codes.{symbols}
+use Rattle.bits.specs.Numerals.{numerals}
+use Rattle.bits.specs.declared.BitSet.{BitSet}
+use Rattle.bits.proofs.NumeralLaws.{length_numerals}
+use Rattle.codes.specs.Codes.{LinearCode, WithinLimits, symbols, matrix}
 use Rattle.encoding.specs.Encoding.{encode_faults, encode_verdict, encoding_of, encoded_stripe}
 use Rattle.refusals.specs.Orders.{and_then, if_fine, Outcome, Fine, Refused}
 use Rattle.refusals.specs.Refusals.{Numbered}
-use Rattle.refusals.proofs.OrderLaws.{fine_means_none_holds}
+use Rattle.refusals.proofs.OrderLaws.{refusal_stands, fine_means_none_holds}
 use Rattle.code_sheets.specs.CodeReading.{CodeRead, reading}
+
+-- The rows of a code within the limits are as many as its symbols
+pub rows_counted : (code : LinearCode) (rows : List BitSet) → WithinLimits code → numerals rows ≡ matrix code → length rows ≡ symbols code
+rows_counted code rows within e = sym (length_numerals rows) ∙ ap length e ∙ length-take-le (symbols code) code.rows (omega (arith, within.rows_held, within.symbols_to))
 
 -- What a fine verdict says of the lengths
 pub record Fits (read : CodeRead) (count size data_bytes stripe_bytes : ℕ) : Type 0 where
@@ -42,6 +51,12 @@ module _ (sheet contents stripe : List ℕ) (size : ℕ) (read : CodeRead) (as_r
       ∙ ap
       (λ (r : CodeRead). and_then r.verdict (encode_faults (symbols r.code) r.code.data_symbols size (length contents) (length stripe)))
       as_read
+
+  -- A sheet that is refused: so is the call
+  pub sheet_refused : (refusal : Numbered) → read.verdict ≡ Refused refusal → Refused refusal ≡ encode_verdict sheet size (length contents) (length stripe)
+  sheet_refused refusal refused =
+      let faults = encode_faults (symbols read.code) read.code.data_symbols size (length contents) (length stripe) in
+      verdict_is refl (sym (ap (λ (verdict : Outcome). and_then verdict faults) refused ∙ refusal_stands refusal faults))
 
   -- Refused: the stripe is as it was
   pub stripe_refused : (answer : Outcome) (refusal : Numbered) → answer ≡ encode_verdict sheet size (length contents) (length stripe)

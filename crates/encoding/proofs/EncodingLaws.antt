@@ -5,8 +5,8 @@ use Prim.Native.Nat.{ℕ, ◌+◌, ◌-◌, ◌*◌, ◌≤◌, ◌<◌}
 use native.Mathlib.Nat.{mul-le-mul_right, zero-mul}
 use native.Mathlib.Numerals.{add-one}
 use native.Mathlib.Omega.{arith}
-use lib.ListN.{length, get_or, take, drop, drop_of_length-le, length-append, length-drop}
-use lib.Seq.{length-take-le, take_at, drop_at, drop-drop, take-suc}
+use lib.ListN.{length, get_or, take, drop, drop_of_length-le}
+use lib.Seq.{length-take-le, take_all, take_at, drop_at, drop-drop, take-suc}
 use borrow.Rule.Slice.PartMut.{put_mid}
 use Rattle.bits.specs.Numerals.{set_width}
 use Rattle.gf2.proofs.SymbolLaws.{part_length, length_encoding}
@@ -27,11 +27,6 @@ encoding_more size data_symbols (first ∷ rows) row bytes =
 -- The stripe when so many symbols are written: the others hold what they held
 abbrev pub written_to : ℕ → ℕ → List ℕ → List ℕ → List ℕ → ℕ → List ℕ
 written_to size data_symbols rows bytes stripe s = encoding size data_symbols (take s rows) bytes ++ drop (s * size) stripe
-
--- What holds of the stripe before each turn: it keeps its length, and so many symbols are written
-abbrev pub WrittenSoFar : ℕ → ℕ → List ℕ → List ℕ → List ℕ → ℕ → List ℕ → ℕ → Type 0
-WrittenSoFar size data_symbols rows bytes stripe count now s =
-    (s ≤ count) × (length now ≡ length stripe) × (now ≡ written_to size data_symbols rows bytes stripe s)
 
 module _ (size data_symbols : ℕ) (rows bytes stripe : List ℕ) (exact : length bytes ≡ data_symbols * size) where
   -- Before the first
@@ -66,28 +61,10 @@ module _ (size data_symbols : ℕ) (rows bytes stripe : List ℕ) (exact : lengt
       ∙ ap (λ (l : List ℕ). l ++ drop ((s + 1) * size) stripe) one_more
 
   -- All of them
-  pub written_all : (count : ℕ) → length stripe ≡ count * size → written_to size data_symbols rows bytes stripe count ≡ encoding size data_symbols (take count rows) bytes
-  written_all count e =
-      ap (λ (l : List ℕ). encoding size data_symbols (take count rows) bytes ++ l) (drop_of_length-le stripe {i = count * size} (omega arith))
-      ∙ append-nil (encoding size data_symbols (take count rows) bytes)
-
-  pub written_so_far : (count : ℕ) (now : List ℕ) (s : ℕ) → length stripe ≡ count * size → count ≤ length rows → s ≤ count
-      → now ≡ written_to size data_symbols rows bytes stripe s → WrittenSoFar size data_symbols rows bytes stripe count now s
-  written_so_far count now s whole held h e =
-      let front : length (encoding size data_symbols (take s rows) bytes) ≡ s * size = length_front s (omega arith) in (
-        h,
-        ap length e ∙ length-append (encoding size data_symbols (take s rows) bytes) (drop (s * size) stripe)
-            ∙ simp length-drop (omega (arith, front, mul-le-mul_right size h)),
-        e,
-      )
-
-  -- One turn of the loop
-  pub written_next : (count : ℕ) (now new : List ℕ) (s : ℕ) → count ≤ set_width → length stripe ≡ count * size → s < count
-      → WrittenSoFar size data_symbols rows bytes stripe count now s × (length rows ≡ set_width)
-      → new ≡ encoded_symbol size bytes (get_or rows s 0) data_symbols
-      → WrittenSoFar size data_symbols rows bytes stripe count (put_mid (s * size) ((s + 1) * size - s * size) now new) (s + 1) × (length rows ≡ set_width)
-  written_next count now new s few whole h (so_far, held) e =
-      (written_so_far count _ (s + 1) whole (omega arith) (omega arith) (written_more s now new (omega arith) so_far.2 e), held)
+  pub written_all : (count : ℕ) → length rows ≤ count → length stripe ≤ count * size → written_to size data_symbols rows bytes stripe count ≡ encoding size data_symbols rows bytes
+  written_all count h whole =
+      ap₂ (λ (some behind : List ℕ). encoding size data_symbols some bytes ++ behind) (take_all count rows h) (drop_of_length-le stripe {i = count * size} whole)
+      ∙ append-nil (encoding size data_symbols rows bytes)
 
 -- Where a symbol ends, in numbers far from a word's last
 pub symbol_end_small : (s count size : ℕ) → count ≤ set_width → size ≤ 65536 → s < count → (s + 1) * size ≤ set_width * 65536

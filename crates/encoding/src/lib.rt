@@ -1,63 +1,58 @@
 // Encoding: the generator-matrix product, symbol by symbol.
 #![tactic(auto)]
 
-ghost use Rattle.std.specs.Prelude.{◌≡◌, ◌*◌, ◌≤◌, length, take};
+ghost use Rattle.std.specs.Prelude.{◌≡◌, ◌*◌, ◌≤◌, length};
 ghost use Rattle.bits.specs.Numerals.{set_width, numerals};
 ghost use Rattle.gf2.specs.Stripes.{encoding};
-ghost use Rattle.refusals.specs.Orders.{outcome, and_then};
+ghost use Rattle.refusals.specs.Orders.{outcome, first_of};
 ghost use Rattle.encoding.specs.Encoding.{encode_faults, encode_verdict, encoded_stripe};
 
-use bits::BitSets;
+use bits::BitSet;
 use code_sheets::read_code;
 use codes::{is_length, symbol_length_test};
-use refusals::{Refusal, Verdict};
+use refusals::{Refusal, Verdict, refuse_if};
 use row_passes::encode_symbol;
 
 // Every symbol, one after the other.
 fn encode_symbols(
-    rows: BitSets,
-    symbols: usize,
+    rows: &[BitSet],
     data_symbols: usize,
     size: usize,
     contents: &[u8],
     stripe: &mut [u8],
 )
-    requires { (symbols ≤ set_width) × (data_symbols ≤ set_width) × (size ≤ 65536) × (length contents.now ≡ data_symbols * size) × (length stripe.old ≡ symbols * size) }
-    ensures { stripe.new ≡ encoding size data_symbols (take symbols (numerals rows)) contents.now }
+    requires rows_few { length rows.now ≤ set_width }
+    requires data_few { data_symbols ≤ set_width }
+    requires size_small { size ≤ 65536 }
+    requires data_whole { length contents.now ≡ data_symbols * size }
+    requires stripe_whole { length stripe.old ≡ length rows.now * size }
+    ensures { stripe.new ≡ encoding size data_symbols (numerals rows.now) contents.now }
 {
-    let mut s = 0;
-    while s < symbols {
-        encode_symbol(
-            rows[s],
-            data_symbols,
-            size,
-            contents,
-            &mut stripe[s * size..(s + 1) * size],
-        );
-        s += 1;
+    for (s, row) in rows.iter().enumerate() {
+        let symbol = &mut stripe[s * size..(s + 1) * size];
+        encode_symbol(*row, data_symbols, size, contents, symbol);
     }
 }
 
-// The order 31, 33, 32 behind the verdict on the code sheet.
+// The order 31, 33, 32.
 fn encode_test(
-    sheet_verdict: Verdict,
     symbols: usize,
     data_symbols: usize,
     size: usize,
     data_bytes: usize,
     stripe_bytes: usize,
 ) -> Verdict
-    ensures { outcome result ≡ and_then (outcome sheet_verdict) (encode_faults symbols data_symbols size data_bytes stripe_bytes) }
+    ensures { outcome result ≡ first_of (encode_faults symbols data_symbols size data_bytes stripe_bytes) }
 {
-    symbol_length_test(sheet_verdict, size)
-        .or_if(
-            !is_length(data_bytes, data_symbols, size),
-            Refusal::DataLength,
-        )
-        .or_if(
-            !is_length(stripe_bytes, symbols, size),
-            Refusal::StripeLength,
-        )
+    symbol_length_test(size)?;
+    refuse_if(
+        !is_length(data_bytes, data_symbols, size),
+        Refusal::DataLength,
+    )?;
+    refuse_if(
+        !is_length(stripe_bytes, symbols, size),
+        Refusal::StripeLength,
+    )
 }
 
 // Encodes data symbols of `size` bytes each into the whole stripe. A refusal changes no byte.
@@ -65,24 +60,15 @@ pub fn encode(sheet: &[u8], size: usize, contents: &[u8], stripe: &mut [u8]) -> 
     ensures answer { outcome result ≡ encode_verdict sheet.now size (length contents.now) (length stripe.old) }
     ensures stripe { stripe.new ≡ encoded_stripe sheet.now size contents.now stripe.old }
 {
-    let reading = read_code(sheet);
-    let sheet_verdict = reading.verdict;
-    let code = reading.code;
-    let layout = code.layout;
-    let symbols = layout.symbols();
+    let code = read_code(sheet)?;
     let data_symbols = code.data_symbols;
-    let verdict = encode_test(
-        sheet_verdict,
-        symbols,
+    encode_test(
+        code.layout.symbols(),
         data_symbols,
         size,
         contents.len(),
         stripe.len(),
-    );
-    let Verdict::Fine = verdict else {
-        return verdict;
-    };
-    let rows = code.rows;
-    encode_symbols(rows, symbols, data_symbols, size, contents, stripe);
-    verdict
+    )?;
+    encode_symbols(code.matrix(), data_symbols, size, contents, stripe);
+    Ok(())
 }

@@ -12,12 +12,14 @@ fn three_five_or_seven(number: usize) -> bool
 }
 
 // k and r may be any numbers: n and r are held to their limits before N is computed.
+#[tactic(auto, unfolding(crate::specs::Families::listed))]
 fn single_parity_listed(data_disks: usize, rows: usize) -> bool
     ensures { result ≡ listed (Family.SingleParity data_disks rows) }
 {
-    matches!(data_disks, 1..=63) && matches!(rows, 1..=32) && (data_disks + 1) * rows <= 64
+    1 <= data_disks && 1 <= rows && data_disks <= 63 && rows <= 32 && (data_disks + 1) * rows <= 64
 }
 
+#[tactic(auto, unfolding(crate::specs::Families::listed))]
 fn liberation_listed(w: usize, data_disks: usize) -> bool
     ensures { result ≡ listed (Family.Liberation w data_disks) }
 {
@@ -41,7 +43,8 @@ pub fn data_disks_of(family: Family) -> usize
     ensures { result ≡ data_disks family }
 {
     match family {
-        Family::SingleParity { data_disks, .. } | Family::Liberation { data_disks, .. } => data_disks,
+        Family::SingleParity { data_disks, .. } | Family::Liberation { data_disks, .. } =>
+            data_disks,
         Family::RowDiagonal { p } => p - 1,
         Family::EvenOdd { p } => p,
     }

@@ -4,11 +4,18 @@
 ghost use Rattle.std.specs.Prelude.{◌≡◌, true, ◌+◌, ◌≤◌, ◌<◌};
 ghost use Rattle.bits.specs.Numerals.{numeral};
 ghost use Rattle.family_codes.specs.Families.{listed, data_disks, family_height, entry, liberation_entry, extra_entry, diagonal_entry};
-ghost use Rattle.family_entries.specs.InnerEntries.{entry_of};
+ghost use Rattle.family_entries.specs.InnerEntries.{number_of, q_entry, entry_of};
 
 use bits::{BitSet, empty, sum, with};
 use family_codes::Family;
 use family_codes::listed::layout_of;
+
+// The parity disks, behind the data disks.
+#[derive(Clone, Copy)]
+pub enum Parity {
+    P,
+    Q,
+}
 
 // The identity row of data disk `disk`, row `row`.
 pub fn identity_row(family: Family, disk: usize, row: usize) -> BitSet
@@ -25,11 +32,8 @@ fn extra_entry(family: Family, w: usize, row: usize, disk: usize) -> BitSet
     requires { (listed family ≡ true) × (family_height family ≡ w) × (disk < data_disks family) }
     ensures { numeral result ≡ extra_entry family w row disk }
 {
-    if disk < 1 {
-        return empty();
-    }
     let extra_row = disk * (w - 1) / 2 % w;
-    if extra_row != row {
+    if disk < 1 || extra_row != row {
         return empty();
     }
     identity_row(family, disk, (extra_row + disk - 1) % w)
@@ -56,18 +60,25 @@ fn diagonal_entry(family: Family, p: usize, row: usize, disk: usize) -> BitSet
     identity_row(family, disk, from)
 }
 
-// What row `row` of a parity disk, counted from 0, takes of a data disk; for Q also on the diagonal after the last row.
-// Single parity has no parity disk 1.
-pub fn entry_of(family: Family, parity: usize, row: usize, disk: usize) -> BitSet
-    requires { (listed family ≡ true) × (row ≤ family_height family) × (parity ≡ 0 → row < family_height family) × (disk < data_disks family) }
-    ensures { numeral result ≡ entry_of family parity row disk }
+// What a row of Q takes of a data disk; also on the diagonal after the last row. Single parity has no Q.
+fn q_entry(family: Family, row: usize, disk: usize) -> BitSet
+    requires { (listed family ≡ true) × (row ≤ family_height family) × (disk < data_disks family) }
+    ensures { numeral result ≡ q_entry family row disk }
 {
-    if parity == 0 {
-        return identity_row(family, disk, row);
-    }
     match family {
         Family::SingleParity { .. } => empty(),
         Family::Liberation { w, .. } => liberation_entry(family, w, row, disk),
         Family::RowDiagonal { p } | Family::EvenOdd { p } => diagonal_entry(family, p, row, disk),
+    }
+}
+
+// What a row of a parity disk takes of a data disk; for Q also on the diagonal after the last row.
+pub fn entry_of(family: Family, parity: Parity, row: usize, disk: usize) -> BitSet
+    requires { (listed family ≡ true) × (row ≤ family_height family) × (parity ≡ Parity.P → row < family_height family) × (disk < data_disks family) }
+    ensures { numeral result ≡ entry_of family (number_of parity) row disk }
+{
+    match parity {
+        Parity::P => identity_row(family, disk, row),
+        Parity::Q => q_entry(family, row, disk),
     }
 }

@@ -1,5 +1,6 @@
 -- Laws of a family's generator matrix as the program makes it: sums over disks, parity rows, the row of a symbol. Assumes nothing.
-use mathlib.Core.Path.{◌≡◌, sym, ap, ap₂, ◌∙◌}
+use mathlib.Core.Path.{◌≡◌, refl, sym, ap, ap₂, ◌∙◌}
+use mathlib.Core.Logic.{◌≢◌}
 use mathlib.Core.List.{List}
 use mathlib.Core.Bool.{cond}
 use Prim.Native.Nat.{ℕ, zero, suc, ◌+◌, ◌-◌, ◌%◌, ◌≤◌, ◌<◌}
@@ -7,7 +8,7 @@ use native.Mathlib.Nat.{add-mod_right, mod-eq_of_lt}
 use native.Mathlib.Omega.{arith}
 use lib.Bits.{bit_xor, xor_zero_r}
 use lib.Dec.{leb}
-use borrow.Author.Tests.{le-leb, eq-eqb, ne_eqb, lt-ltb, le-ltb}
+use borrow.Author.Tests.{le-leb, ne_eqb, lt-ltb, le-ltb}
 use Rattle.codes.specs.Codes.{LinearCode, rows_of}
 use Rattle.codes.specs.Layouts.{symbols_of, first_symbol, disk_of}
 use Rattle.codes.specs.declared.Layout.{Layout}
@@ -26,24 +27,18 @@ pub sum_over_turn : (count : ℕ) (term : ℕ → ℕ) (sum next result : ℕ) �
     → result ≡ bit_xor sum next → result ≡ sum_over (count + 1) term
 sum_over_turn count term sum next result e f g = g ∙ ap₂ bit_xor e f ∙ sum_over_more count term
 
--- The end of a loop that sums
-pub sum_over_done : (count reached : ℕ) (term : ℕ → ℕ) (sum : ℕ) → reached ≤ count → count ≤ reached → sum ≡ sum_over reached term
-    → sum ≡ sum_over count term
-sum_over_done count reached term sum a b e = let end : reached ≡ count = omega arith in rw end at e
-
 -- ------------------------------------------------------------------
 -- Parity rows
 
 -- P is the sum over the data disks
-pub parity_row_of_p : (family : Family) (parity i : ℕ) → parity ≡ 0 → data_sum family 0 i ≡ parity_row family parity i
+pub parity_row_of_p : (family : Family) (i : ℕ) → data_sum family 0 i ≡ parity_row family 0 i
 unfolding parity_row entry_of
-parity_row_of_p family parity i e = sym (simp (eq-eqb parity 0 e))
+parity_row_of_p family i = refl
 
--- Q is what the family says
-pub parity_row_of_q : (family known : Family) (parity i : ℕ) → ¬ (parity ≡ 0) → family ≡ known → q_row known i ≡ parity_row family parity i
+-- Q is the other parity disk
+pub parity_row_of_q : (family : Family) (parity i : ℕ) → parity ≢ 0 → parity_row family 1 i ≡ parity_row family parity i
 unfolding parity_row
-parity_row_of_q family known parity i n e =
-    sym (ap (λ (f : Family). q_row f i) e) ∙ sym (simp (ne_eqb parity 0 n))
+parity_row_of_q family parity i n = sym (simp (ne_eqb parity 0 n))
 
 -- Liberation's is the sum over the data disks
 pub q_row_of_liberation : (family : Family) (w k i : ℕ) → family ≡ Liberation w k → data_sum family 1 i ≡ q_row (Liberation w k) i

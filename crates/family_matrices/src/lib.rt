@@ -6,18 +6,19 @@ ghost use Rattle.bits.specs.Numerals.{numeral};
 ghost use Rattle.codes.specs.Codes.{linear};
 ghost use Rattle.codes.specs.Layouts.{symbols_of};
 ghost use Rattle.family_codes.specs.Families.{listed, family_height, family_layout, q_row, parity_row, family_row, family_code};
+ghost use Rattle.family_entries.specs.InnerEntries.{number_of};
 ghost use Rattle.family_matrices.specs.InnerDataSums.{data_sum};
 
 use bits::{BitSet, empty, empty_sets, sum};
 use codes::Code;
 use family_codes::Family;
 use family_codes::listed::{data_disks_of, layout_of};
-use family_entries::{entry_of, identity_row};
+use family_entries::{Parity, entry_of, identity_row};
 
-// The sum over the data disks in row `row` of a parity disk, counted from 0; for Q also on the diagonal after the last row.
-fn data_sum(family: Family, parity: usize, row: usize) -> BitSet
-    requires { (listed family ≡ true) × (row ≤ family_height family) × (parity ≡ 0 → row < family_height family) }
-    ensures { numeral result ≡ data_sum family parity row }
+// The sum over the data disks in a row of a parity disk; for Q also on the diagonal after the last row.
+fn data_sum(family: Family, parity: Parity, row: usize) -> BitSet
+    requires { (listed family ≡ true) × (row ≤ family_height family) × (parity ≡ Parity.P → row < family_height family) }
+    ensures { numeral result ≡ data_sum family (number_of parity) row }
 {
     let disks = data_disks_of(family);
     let mut total = empty();
@@ -33,12 +34,12 @@ fn row_diagonal_q(p: usize, row: usize) -> BitSet
     ensures { numeral result ≡ q_row (Family.RowDiagonal p) row }
 {
     let family = Family::RowDiagonal { p };
-    let of_data = data_sum(family, 1, row);
+    let of_data = data_sum(family, Parity::Q, row);
     let from = row + 1;
     if p - 1 <= from {
         return of_data;
     }
-    sum(of_data, data_sum(family, 0, from))
+    sum(of_data, data_sum(family, Parity::P, from))
 }
 
 // Row `row` of EVENODD's Q. S is the sum on diagonal p - 1, which is no row's own.
@@ -47,24 +48,32 @@ fn even_odd_q(p: usize, row: usize) -> BitSet
     ensures { numeral result ≡ q_row (Family.EvenOdd p) row }
 {
     let family = Family::EvenOdd { p };
-    let s = data_sum(family, 1, p - 1);
-    let diagonal = data_sum(family, 1, row);
+    let s = data_sum(family, Parity::Q, p - 1);
+    let diagonal = data_sum(family, Parity::Q, row);
     sum(s, diagonal)
 }
 
-// Row `row` of a parity disk, counted from 0.
-fn parity_row(family: Family, parity: usize, row: usize) -> BitSet
+// Row `row` of Q. Single parity has none.
+fn q_row(family: Family, row: usize) -> BitSet
     requires { (listed family ≡ true) × (row < family_height family) }
-    ensures { numeral result ≡ parity_row family parity row }
+    ensures { numeral result ≡ q_row family row }
 {
-    if parity == 0 {
-        return data_sum(family, 0, row);
-    }
     match family {
         Family::SingleParity { .. } => empty(),
-        Family::Liberation { .. } => data_sum(family, 1, row),
+        Family::Liberation { .. } => data_sum(family, Parity::Q, row),
         Family::RowDiagonal { p } => row_diagonal_q(p, row),
         Family::EvenOdd { p } => even_odd_q(p, row),
+    }
+}
+
+// Row `row` of a parity disk.
+fn parity_row(family: Family, parity: Parity, row: usize) -> BitSet
+    requires { (listed family ≡ true) × (row < family_height family) }
+    ensures { numeral result ≡ parity_row family (number_of parity) row }
+{
+    match parity {
+        Parity::P => data_sum(family, Parity::P, row),
+        Parity::Q => q_row(family, row),
     }
 }
 
@@ -80,7 +89,12 @@ fn row_of(family: Family, symbol: usize) -> BitSet
     if disk < data_disks {
         return identity_row(family, disk, row);
     }
-    parity_row(family, disk - data_disks, row)
+    let parity = if disk == data_disks {
+        Parity::P
+    } else {
+        Parity::Q
+    };
+    parity_row(family, parity, row)
 }
 
 // The whole code.

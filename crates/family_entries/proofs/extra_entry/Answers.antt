@@ -6,10 +6,15 @@ use borrow.Author.Tests.{le-leb, lt-leb, eq-eqb, ne_eqb}
 use Rattle.family_codes.specs.Families.{extra_entry}
 use Rattle.family_codes.proofs.FamilyLaws.{listed_bounds, mod_is_row}
 use Rattle.family_entries.proofs.extra_entry.Goals as goal
+use Rattle.family_entries.proofs.extra_entry.Goals.{then-disk-lt1-via-then-disk-lt1, then-disk-lt1-via-else-disk-lt1+then-extra_row-row}
 
 pub returns-then-disk-lt1 : goal.returns-then-disk-lt1
 unfolding extra_entry
-returns-then-disk-lt1 c = simp (lt-leb 1 _ c.if-disk-lt1.true) c.empty.ensures
+returns-then-disk-lt1 c =
+    elim c.then-disk-lt1.branch [
+      | then-disk-lt1-via-then-disk-lt1 w ↦ simp (lt-leb 1 _ w.if-disk-lt1.true) c.empty.ensures
+      | then-disk-lt1-via-else-disk-lt1+then-extra_row-row w ↦ simp (le-leb 1 _ w.if-disk-lt1.false, ne_eqb _ _ w.if-extra_row-row.true) c.empty.ensures
+    ]
 
 pub overflow_sub-extra_row : goal.overflow_sub-extra_row
 overflow_sub-extra_row c = omega (arith, listed_bounds c.args.family c.requires.0)
@@ -22,10 +27,6 @@ overflow_mul-extra_row c =
 
 pub nonzero_rem-extra_row : goal.nonzero_rem-extra_row
 nonzero_rem-extra_row c = omega (arith, listed_bounds c.args.family c.requires.0)
-
-pub returns-then-extra_row-row : goal.returns-then-extra_row-row
-unfolding extra_entry
-returns-then-extra_row-row c = simp (le-leb 1 _ c.if-disk-lt1.false, ne_eqb _ _ c.if-extra_row-row.true) c.empty-then-extra_row-row.ensures
 
 pub overflow_add-extra_row : goal.overflow_add-extra_row
 overflow_add-extra_row c =

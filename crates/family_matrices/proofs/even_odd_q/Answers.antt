@@ -5,12 +5,6 @@ use lib.Bits.{bit_xor}
 use Rattle.family_matrices.proofs.MatrixLaws.{q_row_of_even_odd}
 use Rattle.family_matrices.proofs.even_odd_q.Goals as goal
 
-pub data_sum-s-requires : goal.data_sum-s-requires
-data_sum-s-requires c = (c.requires.0, omega arith, λ e. omega arith)
-
-pub data_sum-diagonal-requires : goal.data_sum-diagonal-requires
-data_sum-diagonal-requires c = (c.requires.0, omega arith, λ e. omega arith)
-
 pub returns : goal.returns
 returns c =
     let a = c.args in

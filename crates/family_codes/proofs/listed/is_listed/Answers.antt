@@ -1,5 +1,5 @@
 -- `listed::is_listed` meets its contract, family by family. Assumes nothing.
-use mathlib.Core.Path.{sym, ap, ◌∙◌}
+use Rattle.std.proofs.Common.{sym, ap, ◌∙◌, inl, inr}
 use Rattle.family_codes.specs.Families.{listed}
 use Rattle.family_codes.proofs.listed.is_listed.Goals as goal
 
@@ -11,8 +11,5 @@ returns-in-Liberation c = c.liberation_listed.ensures ∙ sym (ap listed c.in-Li
 
 pub returns-in-RowDiagonal : goal.returns-in-RowDiagonal
 unfolding listed
-returns-in-RowDiagonal c = c.three_five_or_seven.ensures ∙ sym (ap listed c.in-RowDiagonal.is)
-
-pub returns-in-EvenOdd : goal.returns-in-EvenOdd
-unfolding listed
-returns-in-EvenOdd c = c.three_five_or_seven-in-EvenOdd.ensures ∙ sym (ap listed c.in-EvenOdd.is)
+returns-in-RowDiagonal c =
+    elim c.in-RowDiagonal.is [ inl e ↦ c.three_five_or_seven.ensures ∙ sym (ap listed e) | inr e ↦ c.three_five_or_seven.ensures ∙ sym (ap listed e) ]
