@@ -7,6 +7,7 @@ ghost use Rattle.plan_sheets.specs.InnerPlanSheets.{first_numbers, disk_bytes, w
 use sheets::{byte_at, two_bytes_at, write_list, write_two_bytes};
 
 // What a plan sheet says before its lists; `count` is its first byte.
+// The edition is the sheet's byte, which may be any: an enum would need a case for every other byte besides.
 #[derive(Clone, Copy)]
 pub struct PlanHead {
     pub count: usize,
@@ -150,16 +151,8 @@ pub fn list_part<'a>(plan: &'a [u8], place: ListPlace) -> &'a [u8]
     requires { SmallPlace place }
     ensures { result.now ≡ list_at place plan.now }
 {
-    let sheet_bytes = plan.len();
-    let start = place.first;
-    let end = start + place.count;
-    if sheet_bytes <= start {
-        return &plan[0..0];
-    }
-    if sheet_bytes <= end {
-        return &plan[start..sheet_bytes];
-    }
-    &plan[start..end]
+    let behind = plan.get(place.first..).unwrap_or(&[]);
+    &behind[..place.count.min(behind.len())]
 }
 
 // The first numbers at the front of a buffer.

@@ -2,7 +2,7 @@
 // It is written at the front of a lent buffer, from a subset of the survivors for each wanted symbol.
 #![tactic(auto)]
 
-ghost use Rattle.std.specs.Prelude.{◌≡◌, cond, ◌+◌, ◌≤◌, ◌<◌, length};
+ghost use Rattle.std.specs.Prelude.{◌≡◌, ◌+◌, ◌≤◌, ◌<◌, length};
 ghost use Rattle.bits.specs.BitSets.{has};
 ghost use Rattle.bits.specs.Numerals.{set_width, numeral, numerals};
 ghost use Rattle.codes.specs.Layouts.{symbols_of};
@@ -34,17 +34,8 @@ struct Steps {
     sources: BitSet,
 }
 
-// The first symbol of a subset is copied, the others are added.
-fn fill_step(first: bool, target: usize, source: usize) -> Step
-    ensures { result ≡ cond first (Step.Copy target source) (Step.Add target source) }
-{
-    if first {
-        return Step::Copy { target, source };
-    }
-    Step::Add { target, source }
-}
-
-// The steps for one wanted symbol, from step `number` on; a clear where its subset is empty. Answers the number behind them.
+// The steps for one wanted symbol, from step `number` on: its subset's first symbol is copied and the others are added, or where there is none
+// the target is cleared. Answers the number behind them.
 fn write_target(
     target: usize,
     subset: BitSet,
@@ -56,18 +47,19 @@ fn write_target(
     ensures answer { result ≡ number + length (fill_from target 0 symbols (numeral subset)) }
     ensures buffer { buffer.new ≡ with_steps buffer.old number (fill_from target 0 symbols (numeral subset)) }
 {
-    let mut first = true;
     let mut next = number;
-    let mut source = 0;
-    while source < symbols {
+    for source in 0..symbols {
         if has(subset, source) {
-            write_step(fill_step(first, target, source), next, buffer);
-            first = false;
+            let step = if next == number {
+                Step::Copy { target, source }
+            } else {
+                Step::Add { target, source }
+            };
+            write_step(step, next, buffer);
             next += 1;
         }
-        source += 1;
     }
-    if first {
+    if next == number {
         write_step(Step::Clear { target }, next, buffer);
         next += 1;
     }
@@ -82,14 +74,12 @@ fn write_steps(subsets: BitSets, symbols: usize, wanted: BitSet, buffer: &mut [u
 {
     let mut sources = empty();
     let mut number = 0;
-    let mut target = 0;
-    while target < symbols {
+    for target in 0..symbols {
         if has(wanted, target) {
             let subset = subsets[target];
             number = write_target(target, subset, symbols, number, buffer);
             sources = union(sources, subset);
         }
-        target += 1;
     }
     Steps {
         count: number,

@@ -11,11 +11,9 @@ use Rattle.plan_sheets.proofs.write_steps.Goals.{then-has, else-has}
 
 pub loop-target-init : goal.loop-target-init
 loop-target-init c =
-    let a = c.args in (
-      omega arith,
-      subst (λ (sources : ℕ). PlanRemaining (numerals a.subsets) a.symbols (has (numeral a.wanted)) a.buffer.now a.buffer.now sources 0 0) (sym c.empty-sources.ensures)
-          (plan_all (numerals a.subsets) a.symbols (has (numeral a.wanted)) a.buffer.now c.requires.fits),
-    )
+    let a = c.args in
+    subst (λ (sources : ℕ). PlanRemaining (numerals a.subsets) a.symbols (has (numeral a.wanted)) a.buffer.now a.buffer.now sources 0 0) (sym c.empty-sources.ensures)
+    (plan_all (numerals a.subsets) a.symbols (has (numeral a.wanted)) a.buffer.now c.requires.fits)
 
 pub has-requires : goal.has-requires
 has-requires c = omega (arith, c.requires.symbols_to, c.loop-target-test.true)
@@ -33,14 +31,8 @@ write_target-number-requires c =
     let reached = c.loop-target in (
       omega (arith, c.requires.symbols_to, taken),
       c.requires.symbols_to,
-      plan_fits (has (numeral c.args.wanted)) reached.invariant.1 taken is_wanted (get_or_numerals c.args.subsets reached.target),
+      plan_fits (has (numeral c.args.wanted)) reached.invariant taken is_wanted (get_or_numerals c.args.subsets reached.target),
     )
-
-pub overflow_add-target : goal.overflow_add-target
-overflow_add-target c = omega (arith, c.requires.symbols_to, c.loop-target-test.true)
-
-pub loop-target-smaller : goal.loop-target-smaller
-loop-target-smaller c = omega (arith, c.loop-target-test.true)
 
 pub loop-target-preserved : goal.loop-target-preserved
 loop-target-preserved c =
@@ -48,19 +40,15 @@ loop-target-preserved c =
     let taken = c.loop-target-test.true in
     let wanted = has (numeral c.args.wanted) in
     elim c.if-has.branch [
-      | then-has w ↦ (
-        omega (arith, taken),
-        plan_next wanted loop.invariant.1 taken (sym c.has.ensures ∙ w.if-has.true) (get_or_numerals c.args.subsets loop.target) (c.requires.subsets_below loop.target)
-            (w.buffer-is ∙ w.write_target-number.ensures.buffer) (ap numeral w.sources-is ∙ w.union-sources.ensures) (w.number-is ∙ w.write_target-number.ensures.answer),
-      )
-      | else-has w ↦ (
-        omega (arith, taken),
-        rw (w.buffer-is, ap numeral w.sources-is, w.number-is) (plan_skip wanted loop.invariant.1 taken (sym c.has.ensures ∙ w.if-has.false)),
-      )
+      | then-has w ↦
+          plan_next wanted loop.invariant taken (sym c.has.ensures ∙ w.if-has.true) (get_or_numerals c.args.subsets loop.target) (c.requires.subsets_below loop.target)
+          (w.buffer-is ∙ w.write_target-number.ensures.buffer) (ap numeral w.sources-is ∙ w.union-sources.ensures) (w.number-is ∙ w.write_target-number.ensures.answer)
+      | else-has w ↦
+          rw (w.buffer-is, ap numeral w.sources-is, w.number-is) (plan_skip wanted loop.invariant taken (sym c.has.ensures ∙ w.if-has.false))
     ]
 
 pub returns : goal.returns
 returns c =
     let wanted = has (numeral c.args.wanted) in
-    let reached = c.loop-target.invariant.1 in
+    let reached = c.loop-target.invariant in
     record { answer = plan_told wanted reached c.loop-target-test.false; buffer = (plan_written wanted reached c.loop-target-test.false).1 }

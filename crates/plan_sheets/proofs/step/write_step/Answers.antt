@@ -1,39 +1,25 @@
 -- `plan_sheets::step::write_step` meets its contract, by cases on the step. Assumes nothing.
-use mathlib.Core.Path.{◌∙◌, subst}
-use native.Mathlib.Omega.{arith}
-use Rattle.gf2.specs.Plans.{NamesBelow}
-use Rattle.plan_sheets.proofs.StepsWrittenLaws.{step_stored}
+use Rattle.std.proofs.Common.{◌≡◌, ℕ, ◌+◌, ◌-◌, ◌*◌, List, [], ◌∷◌, length, refl, ap, ◌∙◌}
+use borrow.Rule.Slice.PartMut.{put_mid}
+use Rattle.gf2.specs.declared.Step.{Step}
+use Rattle.plan_sheets.specs.InnerPlanSheets.{step_bytes, with_steps}
+use Rattle.plan_sheets.proofs.StepsWrittenLaws.{bytes_stored, step_stored}
 use Rattle.plan_sheets.proofs.step.write_step.Goals as goal
+use Rattle.plan_sheets.proofs.step.write_step.Goals.{in-Clear, in-Copy, in-Add}
 
-pub write_bytes-requires : goal.write_bytes-requires
-write_bytes-requires c =
-    let names = subst (NamesBelow 256) c.in-Clear.is c.requires.0 in
-    (omega arith, names, omega arith, c.requires.1)
+-- The bytes of a step, put in its place, are the step written
+written : (buffer bytes : List ℕ) (number : ℕ) (step known : Step) → bytes ≡ step_bytes known → length (step_bytes known) ≡ 3 → step ≡ known
+    → put_mid (3 * number) (3 * number + 3 - 3 * number) buffer bytes ≡ with_steps buffer number (step ∷ [])
+written buffer bytes number step known e three is =
+    ap (put_mid (3 * number) (3 * number + 3 - 3 * number) buffer) e ∙ bytes_stored buffer (step_bytes known) (3 * number) three
+    ∙ step_stored buffer number step known is
 
-pub write_bytes-requires-in-Copy : goal.write_bytes-requires-in-Copy
-write_bytes-requires-in-Copy c =
-    let names = subst (NamesBelow 256) c.in-Copy.is c.requires.0 in
-    (omega arith, names.0, names.1, c.requires.1)
-
-pub write_bytes-requires-in-Add : goal.write_bytes-requires-in-Add
-write_bytes-requires-in-Add c =
-    let names = subst (NamesBelow 256) c.in-Add.is c.requires.0 in
-    (omega arith, names.0, names.1, c.requires.1)
-
-pub returns-in-Clear : goal.returns-in-Clear
-returns-in-Clear c =
+pub returns : goal.returns
+returns c =
     let a = c.args in
-    c.write_bytes.ensures
-    ∙ step_stored a.buffer.now a.number a.step _ c.in-Clear.is
-
-pub returns-in-Copy : goal.returns-in-Copy
-returns-in-Copy c =
-    let a = c.args in
-    c.write_bytes-in-Copy.ensures
-    ∙ step_stored a.buffer.now a.number a.step _ c.in-Copy.is
-
-pub returns-in-Add : goal.returns-in-Add
-returns-in-Add c =
-    let a = c.args in
-    c.write_bytes-in-Add.ensures
-    ∙ step_stored a.buffer.now a.number a.step _ c.in-Add.is
+    let copied = c.copy_from_slice.ensures.after in
+    elim c.match-step.branch [
+      | in-Clear w ↦ written a.buffer.now _ a.number a.step _ (copied ∙ w.bytes-is) refl w.in-Clear.is
+      | in-Copy w ↦ written a.buffer.now _ a.number a.step _ (copied ∙ w.bytes-is) refl w.in-Copy.is
+      | in-Add w ↦ written a.buffer.now _ a.number a.step _ (copied ∙ w.bytes-is) refl w.in-Add.is
+    ]
