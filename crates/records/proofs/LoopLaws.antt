@@ -1,16 +1,10 @@
--- Laws of loops over bytes: a digest, a search, and bytes put over a buffer. Assumes nothing.
-use mathlib.Core.Path.{◌≡◌, sym, ap, ◌∙◌}
-use mathlib.Core.Bool.{Bool, true, false, ◌||◌}
-use mathlib.Core.List.{List}
-use Prim.Native.Nat.{ℕ, suc, ◌+◌, ◌*◌, ◌%◌, ◌≤◌, ◌<◌}
-use native.Mathlib.Numerals.{add-one}
-use native.Mathlib.Omega.{arith}
-use lib.ListN.{length, get_or, set, take, drop, replicate, drop_of_length-le, length-replicate, get_or-replicate, length-take}
-use lib.Seq.{drop-cons, get_or-take}
-use borrow.Author.Tests.{eq-eqb, ne_eqb}
-use Rattle.bits.proofs.StoreLaws.{overwritten, overwritten_more, overwritten_all, overwritten_front}
-use Rattle.lists.specs.Lists.{listed}
-use Rattle.sheets.specs.Buffers.{at_front}
+-- Laws of loops over bytes: a digest and searches. Assumes nothing.
+use Rattle.std.proofs.Common.{◌≡◌, refl, sym, ap, ◌∙◌, Bool, ◌||◌, ◌&&◌, List, [], ◌∷◌, ℕ, ◌+◌, ◌*◌, ◌%◌, ◌≤◌, ◌<◌, length, get_or, drop, replicate, add-one}
+use Rattle.std.specs.List.{list_any, list_all}
+use lib.Dec.{eqb}
+use lib.ListN.{drop_of_length-le}
+use lib.Seq.{drop-cons}
+use Rattle.lists.specs.Lists.{listed, same}
 use Rattle.records.specs.Records.{digest_from}
 
 -- ------------------------------------------------------------------
@@ -31,59 +25,16 @@ module _ (bytes : List ℕ) (sum i : ℕ) (left : digest_from sum (drop i bytes)
   digest_all all = sym (ap (digest_from sum) (drop_of_length-le bytes all)) ∙ left
 
 -- ------------------------------------------------------------------
--- The search for a number
+-- Searches
 
-module _ (bytes : List ℕ) (number i : ℕ) (left : listed (drop i bytes) number ≡ listed bytes number) where
-  -- The number is found
-  pub listed_found : i < length bytes → get_or bytes i 0 ≡ number → true ≡ listed bytes number
-  unfolding listed
-  listed_found h here =
-      sym (ap (λ (c : Bool). c || listed (drop (suc i) bytes) number) (eq-eqb number (get_or bytes i 0) (sym here)))
-      ∙ ap (λ (l : List ℕ). listed l number) (sym (drop-cons bytes i 0 h))
-      ∙ left
+-- Whether a number is listed is whether any byte is that number
+pub listed_is_any : (number : ℕ) (bytes : List ℕ) → listed bytes number ≡ list_any (eqb number) bytes
+unfolding listed
+listed_is_any number [] = refl
+listed_is_any number (byte ∷ bytes) = ap (λ (c : Bool). eqb number byte || c) (listed_is_any number bytes)
 
-  -- Another number leaves it to those behind it
-  pub listed_passed : i < length bytes → (get_or bytes i 0 ≡ number → ⊥) → listed (drop (i + 1) bytes) number ≡ listed bytes number
-  unfolding listed
-  listed_passed h other =
-      ap (λ (n : ℕ). listed (drop n bytes) number) (add-one i)
-      ∙ sym (ap (λ (c : Bool). c || listed (drop (suc i) bytes) number) (ne_eqb number (get_or bytes i 0) (λ here. other (sym here))))
-      ∙ ap (λ (l : List ℕ). listed l number) (sym (drop-cons bytes i 0 h))
-      ∙ left
-
-  -- Behind the last byte there is none
-  pub listed_none : length bytes ≤ i → false ≡ listed bytes number
-  unfolding listed
-  listed_none all = sym (ap (λ (l : List ℕ). listed l number) (drop_of_length-le bytes all)) ∙ left
-
--- ------------------------------------------------------------------
--- One byte throughout
-
-module _ (old : List ℕ) (byte : ℕ) (now : List ℕ) (i : ℕ) (so_far : now ≡ overwritten old (replicate (length old) byte) i) where
-  -- One more is stored
-  pub flooded_more : i < length old → set now i byte ≡ overwritten old (replicate (length old) byte) (i + 1)
-  flooded_more h =
-      let long = length-replicate (length old) byte in
-      overwritten_more old (replicate (length old) byte) (omega arith) now i byte (omega arith) so_far (sym (get_or-replicate (length old) i byte 0 h))
-
-  -- All are
-  pub flooded_all : length old ≤ i → now ≡ replicate (length old) byte
-  flooded_all all =
-      let long = length-replicate (length old) byte in
-      overwritten_all old (replicate (length old) byte) now i (sym long) so_far (omega arith)
-
--- ------------------------------------------------------------------
--- Bytes put over the front, as far as the buffer goes
-
-module _ (old bytes now : List ℕ) (i : ℕ) (so_far : now ≡ overwritten old (take (length old) bytes) i) where
-  -- One more is stored
-  pub put_more : i < length old → i < length bytes → set now i (get_or bytes i 0) ≡ overwritten old (take (length old) bytes) (i + 1)
-  put_more h g =
-      let long = length-take (length old) bytes in
-      overwritten_more old (take (length old) bytes) (omega arith) now i (get_or bytes i 0) (omega arith) so_far (sym (get_or-take (length old) bytes i 0 h))
-
-  -- All are that the buffer has room for
-  pub put_all : i ≡ length (take (length old) bytes) → now ≡ at_front (take (length old) bytes) old
-  put_all all =
-      let long = length-take (length old) bytes in
-      overwritten_front old (take (length old) bytes) (omega arith) now i all so_far
+-- Whether bytes are as many zeros is whether all are zero
+pub zeros_is_all : (bytes : List ℕ) → same bytes (replicate (length bytes) 0) ≡ list_all (λ byte. eqb byte 0) bytes
+unfolding same
+zeros_is_all [] = refl
+zeros_is_all (byte ∷ bytes) = ap (λ (c : Bool). eqb byte 0 && c) (zeros_is_all bytes)

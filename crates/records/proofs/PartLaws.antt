@@ -25,45 +25,6 @@ module _ (count : ℕ) (bytes : List ℕ) where
   unfolding front
   front_none h = sym (ap (λ (c : Bool). cond c (take count bytes) []) (lt-leb count (length bytes) h))
 
--- Of zeros they are zeros
-pub front_of_zeros : (count whole : ℕ) → count ≤ whole → front count (replicate whole 0) ≡ replicate count 0
-front_of_zeros count whole h =
-    sym (front_whole count (replicate whole 0) (omega (arith, length-replicate {A = ℕ} whole 0))) ∙ fewer count whole h
-  where
-    fewer : (few many : ℕ) → few ≤ many → take few (replicate {A = ℕ} many 0) ≡ replicate few 0
-    fewer zero many g = refl
-    fewer (suc few) zero g = absurd (omega arith)
-    fewer (suc few) (suc many) g = ap (λ (l : List ℕ). 0 ∷ l) (fewer few many (omega arith))
-
--- ------------------------------------------------------------------
--- The product
-
-module _ (one other : ℕ) where
-  -- It is at most 4096
-  pub product_small : one * other ≤ 4096 → one * other ≡ small_product one other
-  unfolding small_product
-  product_small h = sym (ap (λ (c : Bool). cond c (one * other) 0) (le-leb (one * other) 4096 h))
-
-  -- It is above 4096
-  pub product_large : 4096 < one * other → 0 ≡ small_product one other
-  unfolding small_product
-  product_large h = sym (ap (λ (c : Bool). cond c (one * other) 0) (lt-leb (one * other) 4096 h))
-
-  -- Its factors can be exchanged
-  product_turned : small_product other one ≡ small_product one other
-  unfolding small_product
-  product_turned = ap (λ (whole : ℕ). cond (leb whole 4096) whole 0) (mul_comm other one)
-
--- The first factor is above 4096: the product is 0 or above 4096 too
-pub product_large_factor : (one other : ℕ) → 4096 < one → 0 ≡ small_product one other
-unfolding small_product
-product_large_factor one zero h = sym (ap (λ (whole : ℕ). cond (leb whole 4096) whole 0) (mul-zero one))
-product_large_factor one (suc other) h = product_large one (suc other) (omega (arith, mul-suc one other))
-
--- So it is where the second is
-pub product_large_other : (one other : ℕ) → 4096 < other → 0 ≡ small_product one other
-product_large_other one other h = product_large_factor other one h ∙ product_turned one other
-
 -- ------------------------------------------------------------------
 -- A part that is filled
 

@@ -1,19 +1,17 @@
-// What a program of test records needs: the numbers and parts of a record, buffers filled from a seed, and words and numbers printed.
+// What a program of test records needs: the numbers and parts of a record, buffers filled from a seed, words printed and records read.
 //
 // All numbers of a record have their low byte first.
 #![tactic(auto)]
 
-ghost use Rattle.std.specs.Prelude.{◌≡◌, ◌≤◌, ◌<◌, length, take, drop, replicate};
+ghost use Rattle.std.specs.Prelude.{◌≡◌, ◌≤◌, length, take, drop, replicate, IfOk};
 ghost use Rattle.lists.specs.Lists.{listed, same};
 ghost use Rattle.records.specs.Records.{number_at, front, small_product, seeded, filled_part, digest_from, low_bits};
 ghost use Rattle.sheets.specs.Buffers.{at_front};
 
 use lists::is_same;
-use refusals::Refusal;
-use sheets::{byte_at, two_bytes_at};
-
-// The standard output's number among open files.
-const STDOUT_FILENO: i32 = 1;
+use sheets::two_bytes_at;
+use std::io;
+use std::io::Read;
 
 // The number in the 8 bytes at a place of a record.
 pub fn number_at(record: &[u8], at: usize) -> usize
@@ -30,10 +28,7 @@ pub fn number_at(record: &[u8], at: usize) -> usize
 pub fn rest_at(bytes: &[u8], at: usize) -> &[u8]
     ensures { result.now ≡ drop at bytes.now }
 {
-    if at <= bytes.len() {
-        return &bytes[at..];
-    }
-    &bytes[0..0]
+    bytes.get(at..).unwrap_or(&[])
 }
 
 // The first bytes, as many as asked, or none where there are fewer.
@@ -41,26 +36,21 @@ pub fn front_of(bytes: &[u8], count: usize) -> &[u8]
     ensures { result.now ≡ front count bytes.now }
 {
     if count <= bytes.len() {
-        return &bytes[0..count];
+        &bytes[..count]
+    } else {
+        &[]
     }
-    &bytes[0..0]
 }
 
 // The product of two numbers where it is at most 4096, and 0 otherwise.
+#[tactic(auto, unfolding(crate::specs::Records::small_product))]
 pub fn product(one: usize, other: usize) -> usize
     ensures { (result ≡ small_product one other) × (result ≤ 4096) }
 {
-    if one > 4096 {
-        return 0;
+    match one.checked_mul(other) {
+        Some(whole) if whole <= 4096 => whole,
+        _ => 0,
     }
-    if other > 4096 {
-        return 0;
-    }
-    let whole = one * other;
-    if whole > 4096 {
-        return 0;
-    }
-    whole
 }
 
 // Fills a buffer from a seed.
@@ -68,11 +58,9 @@ pub fn fill(buffer: &mut [u8], seed: usize)
     ensures { buffer.new ≡ seeded (length buffer.old) seed }
 {
     let mut state = seed % 2147483648;
-    let mut i = 0;
-    while i < buffer.len() {
+    for byte in buffer.iter_mut() {
         state = (state * 1103515245 + 12345) % 2147483648;
-        buffer[i] = (state / 65536 % 256) as u8;
-        i += 1;
+        *byte = (state / 65536 % 256) as u8;
     }
 }
 
@@ -80,24 +68,8 @@ pub fn fill(buffer: &mut [u8], seed: usize)
 pub fn fill_part(buffer: &mut [u8], start: usize, end: usize, seed: usize)
     ensures { buffer.new ≡ filled_part start end seed buffer.old }
 {
-    if start > end {
-        return;
-    }
-    if end > buffer.len() {
-        return;
-    }
-    fill(&mut buffer[start..end], seed);
-}
-
-// Makes every byte of a buffer the same.
-pub fn flood(buffer: &mut [u8], byte: usize)
-    requires { byte < 256 }
-    ensures { buffer.new ≡ replicate (length buffer.old) byte }
-{
-    let mut i = 0;
-    while i < buffer.len() {
-        buffer[i] = byte as u8;
-        i += 1;
+    if start <= end && end <= buffer.len() {
+        fill(&mut buffer[start..end], seed);
     }
 }
 
@@ -105,14 +77,8 @@ pub fn flood(buffer: &mut [u8], byte: usize)
 pub fn put_over(buffer: &mut [u8], bytes: &[u8])
     ensures { buffer.new ≡ at_front (take (length buffer.old) bytes.now) buffer.old }
 {
-    let mut i = 0;
-    while i < bytes.len() {
-        if i >= buffer.len() {
-            return;
-        }
-        buffer[i] = bytes[i];
-        i += 1;
-    }
+    let count = bytes.len().min(buffer.len());
+    buffer[..count].copy_from_slice(&bytes[..count]);
 }
 
 // A long buffer, filled from a seed.
@@ -129,10 +95,8 @@ pub fn digest(bytes: &[u8]) -> usize
     ensures { result ≡ digest_from 0 bytes.now }
 {
     let mut sum = 0;
-    let mut i = 0;
-    while i < bytes.len() {
-        sum = (sum * 257 + byte_at(bytes, i) + 1) % 4294967291;
-        i += 1;
+    for byte in bytes {
+        sum = (sum * 257 + usize::from(*byte) + 1) % 4294967291;
     }
     sum
 }
@@ -144,27 +108,18 @@ pub fn same_behind(one: &[u8], other: &[u8], at: usize) -> bool
     is_same(rest_at(one, at), rest_at(other, at))
 }
 
-// Whether bytes, at most 64, are all zero.
+// Whether bytes are all zero.
 pub fn is_zero(bytes: &[u8]) -> bool
-    requires { length bytes.now ≤ 64 }
     ensures { result ≡ same bytes.now (replicate (length bytes.now) 0) }
 {
-    let zeros = [0u8; 64];
-    is_same(bytes, front_of(&zeros, bytes.len()))
+    bytes.iter().all(|byte| *byte == 0)
 }
 
 // Whether a number is among bytes.
 pub fn contains(bytes: &[u8], number: usize) -> bool
     ensures { result ≡ listed bytes.now number }
 {
-    let mut i = 0;
-    while i < bytes.len() {
-        if byte_at(bytes, i) == number {
-            return true;
-        }
-        i += 1;
-    }
-    false
+    bytes.iter().any(|byte| number == usize::from(*byte))
 }
 
 // The bits of a pattern, the lowest first, each a byte of 0 or 1.
@@ -173,51 +128,29 @@ pub fn spread(pattern: u64) -> [u8; 64]
 {
     let mut bits = [0u8; 64];
     let mut rest = pattern;
-    let mut i = 0;
-    while i < 64 {
-        bits[i] = (rest % 2) as u8;
-        rest = rest / 2;
-        i += 1;
+    for bit in bits.iter_mut() {
+        *bit = (rest % 2) as u8;
+        rest /= 2;
     }
     bits
 }
 
-pub fn print(text: &[u8]) {
-    io::write_all(STDOUT_FILENO, text);
-}
-
-pub fn print_number(number: u64) {
-    print(b" ");
-    io::print_decimal(STDOUT_FILENO, number);
-}
-
-// A refusal: its number and its place.
-pub fn print_refusal(refusal: Refusal) {
-    print(b"refused");
-    print_number(refusal.number());
-    print(b" at");
-    print_number(refusal.place() as u64);
-}
-
 // A word, after a blank, with "not-" in front of it where it does not hold.
-pub fn print_word(holds: bool, word: &[u8]) {
-    print(b" ");
-    if !holds {
-        print(b"not-");
-    }
-    print(word);
+pub fn print_word(rt: &impl Print, holds: bool, word: &str) -> io::Result<()> {
+    let not = if holds { "" } else { "not-" };
+    print!(rt; " {not}{word}")
 }
 
-pub fn end_line() {
-    print(b"\n");
-}
-
-// Bytes in hex, after a blank.
-pub fn print_bytes(bytes: &[u8]) {
-    print(b" ");
-    let mut i = 0;
-    while i < bytes.len() {
-        io::print_hex(STDOUT_FILENO, byte_at(bytes, i) as u64, 2);
-        i += 1;
+// Reads until the buffer is full or the input ends, and answers how many bytes that were.
+pub fn read_full(input: &mut impl Read, buffer: &mut [u8]) -> io::Result<usize>
+    ensures { IfOk result (λ got. got ≤ length buffer.new) }
+{
+    let mut got = 0;
+    while got < buffer.len() {
+        match input.read(&mut buffer[got..])? {
+            0 => break,
+            count => got += count,
+        }
     }
+    Ok(got)
 }

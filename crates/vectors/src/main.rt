@@ -18,27 +18,18 @@
 //     the asked disks, the code sheet
 #![tactic(auto)]
 
-ghost use Rattle.std.specs.Prelude.{◌≡◌, ◌≤◌, ◌<◌, length};
-ghost use Rattle.bits.specs.Numerals.{set_width};
-ghost use Rattle.codes.specs.Codes.{linear, WithinLimits};
+ghost use Rattle.std.specs.Prelude.{◌≡◌, length};
 
-use bits::{BitSets, low_word};
-use checker::Checked;
+use bits::low_word;
+use code_sheets::read_code;
 use codes::Code;
-use families::{Family, Written};
-use records::{
-    digest, end_line, fill, flood, front_of, number_at, print, print_number, print_refusal,
-    put_over, rest_at,
-};
-use refusals::Verdict;
+use families::Family;
+use records::{digest, fill, front_of, number_at, put_over, read_full, rest_at};
+use refusals::{Refusal, Verdict};
 use sheets::{byte_at, two_bytes_at};
 use soundness::Tested;
-
-// The standard input's number among open files.
-const STDIN_FILENO: i32 = 0;
-
-// The standard output's number among open files.
-const STDOUT_FILENO: i32 = 1;
+use std::io;
+use std::io::Read;
 
 // The most bytes that a record has.
 const RECORD: usize = 8192;
@@ -46,81 +37,56 @@ const RECORD: usize = 8192;
 // The most bytes that a long input has.
 const ROOM: usize = 262144;
 
-fn print_verdict(verdict: Verdict) {
+fn print_verdict(rt: &impl Print, verdict: Verdict) -> io::Result<()> {
     match verdict {
-        Verdict::Fine => {
-            print(b"fine");
-        }
-        Verdict::Refused(refusal) => {
-            print_refusal(refusal);
-        }
+        Ok(()) => print!(rt; "fine"),
+        Err(refusal) => print!(rt; "{refusal}"),
     }
 }
 
 // The digest of a whole buffer, as the end of a line.
-fn print_digest(bytes: &[u8]) {
-    print(b" digest");
-    print_number(digest(bytes) as u64);
-    end_line();
+fn print_digest(rt: &impl Print, bytes: &[u8]) -> io::Result<()> {
+    let digest = digest(bytes);
+    println!(rt; " digest {digest}")
 }
 
 // The bytes of a short buffer, in hex.
-fn print_short(bytes: &[u8]) {
+fn print_short(rt: &impl Print, bytes: &[u8]) -> io::Result<()> {
     if bytes.len() > 16 {
-        return;
+        return Ok(());
     }
-    print(b" bytes");
-    let mut i = 0;
-    while i < bytes.len() {
-        print(b" ");
-        io::print_hex(STDOUT_FILENO, byte_at(bytes, i) as u64, 2);
-        i += 1;
+    print!(rt; " bytes")?;
+    for byte in bytes {
+        print!(rt; " {byte:02x}")?;
     }
+    Ok(())
 }
 
 // What a call showed: how many bytes, and which.
-fn print_part(part: &[u8]) {
-    print(b" part");
-    print_number(part.len() as u64);
-    print_digest(part);
+fn print_part(rt: &impl Print, part: &[u8]) -> io::Result<()> {
+    let length = part.len();
+    print!(rt; " part {length}")?;
+    print_digest(rt, part)
 }
 
-fn print_rows(rows: BitSets, count: usize)
-    requires { count ≤ set_width }
-{
-    print(b" rows");
-    let mut i = 0;
-    while i < count {
-        print_number(low_word(rows[i]));
-        i += 1;
+fn print_code(rt: &impl Print, code: &Code) -> io::Result<()> {
+    let disks = code.layout.disks;
+    let height = code.layout.height;
+    let data_symbols = code.data_symbols;
+    print!(rt; "code {disks} {height} {data_symbols} rows")?;
+    for row in code.matrix() {
+        let number = low_word(*row);
+        print!(rt; " {number}")?;
     }
+    Ok(())
 }
 
-fn print_code(code: Code)
-    requires { WithinLimits (linear code) }
-{
-    let layout = code.layout;
-    let rows = code.rows;
-    print(b"code");
-    print_number(layout.disks as u64);
-    print_number(layout.height as u64);
-    print_number(code.data_symbols as u64);
-    print_rows(rows, layout.symbols());
-}
-
-fn read(record: &[u8]) {
-    let reading = code_sheets::read_code(rest_at(record, 1));
-    let verdict = reading.verdict;
-    let code = reading.code;
-    match verdict {
-        Verdict::Fine => {
-            print_code(code);
-        }
-        Verdict::Refused(refusal) => {
-            print_refusal(refusal);
-        }
+fn read(rt: &impl Print, record: &[u8]) -> io::Result<()> {
+    match read_code(rest_at(record, 1)) {
+        Ok(code) => print_code(rt, &code)?,
+        Err(refusal) => print!(rt; "{refusal}")?,
     }
-    end_line();
+    println!(rt; "")
 }
 
 fn family_of(which: usize, first: usize, second: usize) -> Family {
@@ -138,125 +104,105 @@ fn family_of(which: usize, first: usize, second: usize) -> Family {
     }
 }
 
-fn write_family(record: &[u8], buffer: &mut [u8]) {
+fn write_family(rt: &impl Print, record: &[u8], buffer: &mut [u8]) -> io::Result<()> {
     let family = family_of(
         number_at(record, 1),
         number_at(record, 9),
         number_at(record, 17),
     );
     fill(buffer, number_at(record, 33));
-    let written = families::write_family(family, buffer);
-    match written {
-        Written::Sheet { length } => {
-            print(b"sheet");
-            print_number(length as u64);
-        }
-        Written::Refused(refusal) => {
-            print_refusal(refusal);
-        }
+    match families::write_family(family, buffer) {
+        Ok(length) => print!(rt; "sheet {length}")?,
+        Err(refusal) => print!(rt; "{refusal}")?,
     }
-    print_digest(buffer);
+    print_digest(rt, buffer)
 }
 
-fn encode(record: &[u8], contents: &mut [u8], stripe: &mut [u8]) {
+fn encode(
+    rt: &impl Print,
+    record: &[u8],
+    contents: &mut [u8],
+    stripe: &mut [u8],
+) -> io::Result<()> {
     let rest = rest_at(record, 49);
     let sheet = front_of(rest, number_at(record, 41));
     fill(contents, number_at(record, 17));
     put_over(contents, rest_at(rest, sheet.len()));
     fill(stripe, number_at(record, 33));
     let verdict = encoding::encode(sheet, number_at(record, 1), contents, stripe);
-    print_verdict(verdict);
-    print_short(stripe);
-    print_digest(stripe);
+    print_verdict(rt, verdict)?;
+    print_short(rt, stripe)?;
+    print_digest(rt, stripe)
 }
 
-fn show_strip(record: &[u8], stripe: &mut [u8]) {
+fn show_strip(rt: &impl Print, record: &[u8], stripe: &mut [u8]) -> io::Result<()> {
     let disk = number_at(record, 1);
     let size = number_at(record, 9);
     let sheet = rest_at(record, 33);
     fill(stripe, number_at(record, 25));
-    print_verdict(views::strip_verdict(sheet, disk, size, stripe));
-    print_part(views::strip(sheet, disk, size, stripe));
+    print_verdict(rt, views::strip_verdict(sheet, disk, size, stripe))?;
+    print_part(rt, views::strip(sheet, disk, size, stripe))
 }
 
-fn look_up(record: &[u8], stripe: &mut [u8], spare: &mut [u8]) {
+fn look_up(
+    rt: &impl Print,
+    record: &[u8],
+    stripe: &mut [u8],
+    spare: &mut [u8],
+) -> io::Result<()> {
     let disk = number_at(record, 1);
     let size = number_at(record, 9);
     let symbol = number_at(record, 49);
     let sheet = rest_at(record, 57);
     fill(stripe, number_at(record, 25));
     fill(spare, number_at(record, 41));
-    print_verdict(views::look_up_verdict(sheet, disk, size, stripe, spare, symbol));
-    print_part(views::look_up(sheet, disk, size, stripe, spare, symbol));
+    print_verdict(
+        rt,
+        views::look_up_verdict(sheet, disk, size, stripe, spare, symbol),
+    )?;
+    print_part(rt, views::look_up(sheet, disk, size, stripe, spare, symbol))
 }
 
-fn check(record: &[u8]) {
+fn check(rt: &impl Print, record: &[u8]) -> io::Result<()> {
     let rest = rest_at(record, 17);
     let disks = front_of(rest, number_at(record, 1));
     let sheets = rest_at(rest, disks.len());
     let sheet = front_of(sheets, number_at(record, 9));
     let plan = rest_at(sheets, sheet.len());
-    let checked = checker::check(sheet, disks, plan);
-    match checked {
-        Checked::Accepted { reads } => {
-            print(b"accepted reads");
-            print_number(reads as u64);
-        }
-        Checked::Refused(refusal) => {
-            print_refusal(refusal);
-        }
+    match checker::check(sheet, disks, plan) {
+        Ok(reads) => println!(rt; "accepted reads {reads}"),
+        Err(refusal) => println!(rt; "{refusal}"),
     }
-    end_line();
 }
 
 // The desk's text as one line: each newline is shown as a bar.
-fn print_on_one_line(text: &[u8]) {
-    let mut i = 0;
-    while i < text.len() {
-        if text[i] == b'\n' {
-            print(b"|");
-        } else {
-            print(&text[i..i + 1]);
-        }
-        i += 1;
+fn desk(rt: &impl Print, record: &[u8]) -> io::Result<()> {
+    let text = desk_answers::desk_text(rest_at(record, 1));
+    for letter in text.as_str().chars() {
+        let shown = if letter == '\n' { '|' } else { letter };
+        print!(rt; "{shown}")?;
     }
-    end_line();
-}
-
-fn desk(record: &[u8]) {
-    let mut out = [0u8; 160];
-    let length = desk_answers::write_lines(rest_at(record, 1), &mut out);
-    print_on_one_line(front_of(&out, length));
+    println!(rt; "")
 }
 
 // Ruins a part of a stripe, where there is such a part: with one byte throughout, for a seed below 256, or from the seed.
 fn ruin(stripe: &mut [u8], start: usize, end: usize, seed: usize) {
-    if start > end {
-        return;
+    if let Some(part) = stripe.get_mut(start..end) {
+        match u8::try_from(seed) {
+            Ok(byte) => part.fill(byte),
+            Err(_) => fill(part, seed),
+        }
     }
-    if end > stripe.len() {
-        return;
-    }
-    if seed < 256 {
-        flood(&mut stripe[start..end], seed);
-        return;
-    }
-    fill(&mut stripe[start..end], seed);
 }
 
-// Makes a valid stripe, where there is data to encode.
-fn encode_first(sheet: &[u8], size: usize, contents: &[u8], stripe: &mut [u8]) {
-    if contents.len() == 0 {
-        return;
-    }
-    encoding::encode(sheet, size, contents, stripe);
-}
-
-// The stripe of a rebuild or a test: filled, or encoded from data, and then a part of it ruined.
+// The stripe of a rebuild or a test: filled, or encoded where there is data, and then a part of it ruined.
 fn make_stripe(record: &[u8], sheet: &[u8], size: usize, contents: &mut [u8], stripe: &mut [u8]) {
     fill(stripe, number_at(record, 25));
     fill(contents, number_at(record, 41));
-    encode_first(sheet, size, contents, stripe);
+    if !contents.is_empty() {
+        // Where the data don't fit the code, the stripe stays as it was filled.
+        let _ = encoding::encode(sheet, size, contents, stripe);
+    }
     ruin(
         stripe,
         number_at(record, 49),
@@ -265,7 +211,12 @@ fn make_stripe(record: &[u8], sheet: &[u8], size: usize, contents: &mut [u8], st
     );
 }
 
-fn rebuild(record: &[u8], stripe: &mut [u8], contents: &mut [u8]) {
+fn rebuild(
+    rt: &impl Print,
+    record: &[u8],
+    stripe: &mut [u8],
+    contents: &mut [u8],
+) -> io::Result<()> {
     let size = number_at(record, 9);
     let rest = rest_at(record, 81);
     let disks = front_of(rest, number_at(record, 1));
@@ -273,27 +224,24 @@ fn rebuild(record: &[u8], stripe: &mut [u8], contents: &mut [u8]) {
     let sheet = front_of(sheets, number_at(record, 73));
     let plan = rest_at(sheets, sheet.len());
     make_stripe(record, sheet, size, contents, stripe);
-    print_verdict(rebuild::rebuild(sheet, disks, plan, size, stripe));
-    print_digest(stripe);
+    print_verdict(rt, rebuild::rebuild(sheet, disks, plan, size, stripe))?;
+    print_digest(rt, stripe)
 }
 
-fn print_tested(tested: Tested) {
+fn print_tested(rt: &impl Print, tested: Result<Tested, Refusal>) -> io::Result<()> {
     match tested {
-        Tested::Sound => {
-            print(b"sound");
-        }
-        Tested::Unsound { column } => {
-            print(b"unsound");
-            print_number(column as u64);
-        }
-        Tested::Refused(refusal) => {
-            print_refusal(refusal);
-        }
+        Ok(Tested::Sound) => println!(rt; "sound"),
+        Ok(Tested::Unsound { column }) => println!(rt; "unsound {column}"),
+        Err(refusal) => println!(rt; "{refusal}"),
     }
-    end_line();
 }
 
-fn test_survivors(record: &[u8], stripe: &mut [u8], contents: &mut [u8]) {
+fn test_survivors(
+    rt: &impl Print,
+    record: &[u8],
+    stripe: &mut [u8],
+    contents: &mut [u8],
+) -> io::Result<()> {
     let size = number_at(record, 9);
     let rest = rest_at(record, 105);
     let disks = front_of(rest, number_at(record, 1));
@@ -305,95 +253,82 @@ fn test_survivors(record: &[u8], stripe: &mut [u8], contents: &mut [u8]) {
         number_at(record, 81),
         number_at(record, 89),
     );
-    print_tested(soundness::test_survivors(sheet, disks, size, stripe));
+    print_tested(rt, soundness::test_survivors(sheet, disks, size, stripe))
 }
 
-// Makes a call on the two long inputs that it is lent, or on the first alone.
-fn call_on(record: &[u8], call: usize, first: &mut [u8], second: &mut [u8]) {
-    match call {
-        1 => write_family(record, first),
-        2 => encode(record, first, second),
-        3 => show_strip(record, first),
-        4 => look_up(record, first, second),
-        7 => rebuild(record, first, second),
-        8 => test_survivors(record, first, second),
-        _ => {}
-    }
-}
-
-// The place of one long input.
-fn room() -> [u8; ROOM]
-    ensures { 262144 ≡ length result }
+// Makes a call with two long inputs of these lengths; no record asks for more than there is room for.
+fn with_rooms<F: FnOnce(&mut [u8], &mut [u8]) -> io::Result<()>>(
+    length: usize,
+    second_length: usize,
+    call: F,
+) -> io::Result<()>
+    requires { F.IsAlwaysCallable call }
 {
-    [0; ROOM]
-}
-
-// Makes a call with long inputs of these lengths; no record asks for more than there is room for.
-fn call_with(record: &[u8], call: usize, length: usize, second_length: usize) {
-    if length > ROOM {
-        return;
+    if length > ROOM || second_length > ROOM {
+        return Ok(());
     }
-    if second_length > ROOM {
-        return;
+    let mut first = [0; ROOM];
+    let mut second = [0; ROOM];
+    call(&mut first[..length], &mut second[..second_length])
+}
+
+fn answer(rt: &impl Print, record: &[u8]) -> io::Result<()> {
+    match byte_at(record, 0) {
+        0 => read(rt, record),
+        1 => with_rooms(number_at(record, 25), 0, |buffer, _| {
+            write_family(rt, record, buffer)
+        }),
+        2 => with_rooms(
+            number_at(record, 9),
+            number_at(record, 25),
+            |contents, stripe| encode(rt, record, contents, stripe),
+        ),
+        3 => with_rooms(number_at(record, 17), 0, |stripe, _| {
+            show_strip(rt, record, stripe)
+        }),
+        4 => with_rooms(
+            number_at(record, 17),
+            number_at(record, 33),
+            |stripe, spare| look_up(rt, record, stripe, spare),
+        ),
+        5 => check(rt, record),
+        6 => desk(rt, record),
+        7 => with_rooms(
+            number_at(record, 17),
+            number_at(record, 33),
+            |stripe, contents| rebuild(rt, record, stripe, contents),
+        ),
+        8 => with_rooms(
+            number_at(record, 17),
+            number_at(record, 33),
+            |stripe, contents| test_survivors(rt, record, stripe, contents),
+        ),
+        _ => Ok(()),
     }
-    let mut first = room();
-    let mut second = room();
-    call_on(
-        record,
-        call,
-        &mut first[0..length],
-        &mut second[0..second_length],
-    );
 }
 
-fn answer(record: &[u8]) {
-    let call = byte_at(record, 0);
-    match call {
-        0 => read(record),
-        1 => call_with(record, call, number_at(record, 25), 0),
-        2 => call_with(record, call, number_at(record, 9), number_at(record, 25)),
-        3 => call_with(record, call, number_at(record, 17), 0),
-        5 => check(record),
-        6 => desk(record),
-        4 | 7 | 8 => call_with(record, call, number_at(record, 17), number_at(record, 33)),
-        _ => {}
-    }
-}
-
-fn read_record(part: &mut [u8]) {
-    let length = io::read_full(STDIN_FILENO, part);
-    answer(&part[..length]);
-}
-
-fn record_in(room: &mut [u8], length: usize) -> bool {
-    if length > room.len() {
-        return false;
-    }
-    read_record(&mut room[0..length]);
-    true
-}
-
-// The place of one record.
-fn record_room() -> [u8; RECORD]
-    ensures { 8192 ≡ length result }
-{
-    [0; RECORD]
-}
-
-// Answers the next record, or says that there is none.
-fn next_record() -> bool {
+// Answers the next record, or says that there is none. A record that ends too early is answered as far as it goes.
+fn answer_next(rt: &impl Print, input: &mut impl Read) -> io::Result<bool> {
     let mut head = [0u8; 2];
-    let got = io::read_full(STDIN_FILENO, &mut head);
-    if got < 2 {
-        return false;
+    if read_full(input, &mut head)? < 2 {
+        return Ok(false);
     }
-    let mut room = record_room();
-    record_in(&mut room, two_bytes_at(&head, 0))
+    let length = two_bytes_at(&head, 0);
+    if length > RECORD {
+        return Ok(false);
+    }
+    let mut record = [0u8; RECORD];
+    let got = read_full(input, &mut record[..length])?;
+    answer(rt, &record[..got])?;
+    Ok(true)
 }
 
-fn main() {
-    let mut turns = u64::MAX;
-    while turns > 0 && next_record() {
-        turns -= 1;
+fn main(rt: HostRuntime) -> io::Result<()> {
+    let mut input = rt.stdin();
+    for _ in 0..u64::MAX {
+        if !answer_next(&rt, &mut input)? {
+            break;
+        }
     }
+    Ok(())
 }

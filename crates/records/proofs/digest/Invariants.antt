@@ -5,8 +5,6 @@ use lib.ListN.{length, drop}
 use Rattle.records.specs.Records.{digest_from}
 use Rattle.records.proofs.digest.Given as goal
 
-abbrev pub invariant-loop-i : goal.invariant-loop-i
-invariant-loop-i l = (l.i ≤ length l.bytes) × (l.sum < 4294967291) × (digest_from l.sum (drop l.i l.bytes) ≡ digest_from 0 l.bytes)
+abbrev pub invariant-loop-byte : goal.invariant-loop-byte
+invariant-loop-byte l = (l.sum < 4294967291) × (digest_from l.sum (drop l.byte-index l.bytes) ≡ digest_from 0 l.bytes)
 
-abbrev pub decreases-loop-i : goal.decreases-loop-i
-decreases-loop-i l = length l.bytes - l.i

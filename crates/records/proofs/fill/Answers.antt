@@ -1,15 +1,15 @@
 -- `records::fill` meets its contract, and its products fit. Assumes nothing.
-use native.Mathlib.Omega.{arith}
+use Rattle.std.proofs.Common.{arith}
 use Rattle.records.specs.Records.{next_state, state_byte}
 use Rattle.records.proofs.MadeLaws.{storing_starts, storing_more, storing_ends}
 use Rattle.records.proofs.fill.Goals as goal
 
-pub loop-i-init : goal.loop-i-init
-loop-i-init c = (omega arith, storing_starts)
+pub loop-byte-init : goal.loop-byte-init
+loop-byte-init c = (omega arith, storing_starts)
 
-pub loop-i-preserved : goal.loop-i-preserved
+pub loop-byte-preserved : goal.loop-byte-preserved
 unfolding next_state state_byte
-loop-i-preserved c = (omega arith, storing_more c.loop-i.invariant.1 (omega arith))
+loop-byte-preserved c = (omega arith, storing_more c.loop-byte.invariant.1 (omega arith))
 
 pub returns : goal.returns
-returns c = storing_ends c.loop-i.invariant.1 (omega arith)
+returns c = storing_ends c.loop-byte.invariant.1 (omega arith)

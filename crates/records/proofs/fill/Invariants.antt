@@ -5,8 +5,6 @@ use Rattle.records.specs.Records.{next_state, state_byte}
 use Rattle.records.proofs.MadeLaws.{Storing}
 use Rattle.records.proofs.fill.Given as goal
 
-abbrev pub invariant-loop-i : goal.invariant-loop-i
-invariant-loop-i l = (l.state < 2147483648) × Storing state_byte next_state l.initial.buffer (l.seed % 2147483648) l.buffer l.state l.i
+abbrev pub invariant-loop-byte : goal.invariant-loop-byte
+invariant-loop-byte l = (l.state < 2147483648) × Storing state_byte next_state l.initial.buffer (l.seed % 2147483648) l.buffer l.state l.byte-index
 
-abbrev pub decreases-loop-i : goal.decreases-loop-i
-decreases-loop-i l = length l.initial.buffer - l.i
