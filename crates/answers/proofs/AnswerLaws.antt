@@ -1,4 +1,4 @@
--- What goes out tells the answer: a verdict, a code's shape, what checking answered, a part. Assumes nothing.
+-- What goes out tells the answer: a verdict, what checking answered, a part. Assumes nothing.
 use mathlib.Core.Path.{◌≡◌, refl, sym, ap, ap₂, subst, ◌∙◌}
 use mathlib.Core.Bool.{Bool, true, false, cond}
 use mathlib.Core.List.{List}
@@ -6,66 +6,41 @@ use mathlib.Core.Logic.{◌↔◌}
 use Prim.Native.Nat.{ℕ}
 use lib.Dec.{eqb}
 use Rattle.answers.proofs.NumberLaws.{number_not_0}
-use Rattle.answers.specs.Answers.{out_verdict, out_code, out_sheet, out_checked, out_part, part_by}
+use Rattle.answers.specs.Answers.{out_verdict, out_sheet, out_checked, out_part, part_by}
 use Rattle.answers.specs.declared.OutChecked.{OutChecked}
-use Rattle.answers.specs.declared.OutCode.{OutCode}
 use Rattle.answers.specs.declared.OutPart.{OutPart}
 use Rattle.answers.specs.declared.OutSheet.{OutSheet}
 use Rattle.answers.specs.declared.OutVerdict.{OutVerdict}
-use Rattle.codes.specs.Layouts.{symbols_of}
 use Rattle.plans.specs.Check.{as_checked}
-use Rattle.plans.specs.declared.Checked.{Checked}
 use Rattle.families.specs.FamilySheets.{family_answer, family_buffer, ReadsBack}
 use Rattle.family_codes.specs.declared.Family.{Family}
 use Rattle.refusals.specs.Orders.{Outcome, Fine, Refused, outcome, if_fine, Answer, Gives}
-use Rattle.refusals.specs.declared.Verdict.{Verdict}
-use Rattle.code_sheets.specs.CodeReading.{CodeRead}
+use Rattle.refusals.specs.declared.Refusal.{Refusal}
+use Rattle.std.specs.Prelude.{Result, Ok, Err}
 use Rattle.views.specs.Places.{nowhere, strip_part, strip_place, slice_of, Shows}
 use Rattle.views.specs.Views.{layout_of, strip_verdict}
 use Rattle.strips.specs.declared.Part.{Part}
-use Rattle.plans.specs.declared.Checked.TheVariants as Checks
-use Rattle.refusals.specs.declared.Verdict.TheVariants as Verdicts
 
 -- ------------------------------------------------------------------
 -- Verdicts
 
-fine_by_number : (verdict : Verdict) → (out_verdict (outcome verdict)).number ≡ 0 → outcome verdict ≡ Fine
-fine_by_number Verdicts.Fine e = refl
-fine_by_number (Verdicts.Refused refusal) e = absurd (number_not_0 refusal e)
+fine_by_number : (verdict : Result Unit Refusal) → (out_verdict (outcome verdict)).number ≡ 0 → outcome verdict ≡ Fine
+fine_by_number (Ok done) e = refl
+fine_by_number (Err refusal) e = absurd (number_not_0 refusal e)
 
 -- Number 0 says that nothing was refused
-pub number_0_is_fine : (verdict : Verdict) {out : OutVerdict} → out ≡ out_verdict (outcome verdict) → out.number ≡ 0 → outcome verdict ≡ Fine
+pub number_0_is_fine : (verdict : Result Unit Refusal) {out : OutVerdict} → out ≡ out_verdict (outcome verdict) → out.number ≡ 0 → outcome verdict ≡ Fine
 number_0_is_fine verdict told e = fine_by_number verdict (sym (ap (λ (o : OutVerdict). o.number) told) ∙ e)
-
--- ------------------------------------------------------------------
--- A code's shape
-
--- The numbers of a code that was read, beside what went out of its verdict and its number of symbols
-abbrev pub shape_of : CodeRead → OutVerdict → ℕ → OutCode
-shape_of read out symbols =
-    record {
-      number = out.number;
-      place = out.place;
-      disks = read.code.layout.disks;
-      rows = read.code.layout.height;
-      data_symbols = read.code.data_symbols;
-      symbols = symbols;
-    }
-
--- They are what a reading goes out as
-pub code_out : {read from : CodeRead} {out : OutVerdict} {symbols : ℕ} → out ≡ out_verdict read.verdict → symbols ≡ symbols_of read.code.layout
-    → read ≡ from → shape_of read out symbols ≡ out_code from
-code_out {read} told counted same = ap₂ (shape_of read) told counted ∙ ap out_code same
 
 -- ------------------------------------------------------------------
 -- What checking answered
 
-accepted_by_reads : (answer : Checked) (count : ℕ) → out_checked (as_checked answer) ≡ out_checked (Gives count) → as_checked answer ≡ Gives count
-accepted_by_reads (Checks.Accepted reads) count e = ap Gives (ap (λ (o : OutChecked). o.reads) e)
-accepted_by_reads (Checks.Refused refusal) count e = absurd (number_not_0 refusal (ap (λ (o : OutChecked). o.number) e))
+accepted_by_reads : (answer : Result ℕ Refusal) (count : ℕ) → out_checked (as_checked answer) ≡ out_checked (Gives count) → as_checked answer ≡ Gives count
+accepted_by_reads (Ok reads) count e = ap Gives (ap (λ (o : OutChecked). o.reads) e)
+accepted_by_reads (Err refusal) count e = absurd (number_not_0 refusal (ap (λ (o : OutChecked). o.number) e))
 
 -- Accepted goes out exactly where the check accepts; with it, demand 2
-pub accepted_out_exactly : (answer : Checked) {out : OutChecked} {Deserved : ℕ → Type 0} → out ≡ out_checked (as_checked answer)
+pub accepted_out_exactly : (answer : Result ℕ Refusal) {out : OutChecked} {Deserved : ℕ → Type 0} → out ≡ out_checked (as_checked answer)
     → ((count : ℕ) → (as_checked answer ≡ Gives count) ↔ Deserved count)
     → (count : ℕ) → (out ≡ out_checked (Gives count)) ↔ Deserved count
 accepted_out_exactly answer told exactly count = (

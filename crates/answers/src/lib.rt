@@ -2,20 +2,21 @@
 // document 01's table beside the values of their case.
 #![tactic(auto)]
 
-ghost use Rattle.std.specs.Prelude.{◌≡◌, ◌%◌, ◌^◌, length, get_or, take};
+ghost use Rattle.std.specs.Prelude.{◌≡◌, ◌%◌, ◌^◌, get_or};
 ghost use Rattle.bits.specs.Numerals.{numerals};
 ghost use Rattle.plans.specs.Check.{as_checked};
 ghost use Rattle.refusals.specs.Orders.{outcome};
+ghost use Rattle.code_sheets.specs.CodeReading.{as_read};
 ghost use Rattle.families.specs.FamilySheets.{as_written};
 ghost use Rattle.planning.specs.Planning.{as_planned};
 ghost use Rattle.answers.specs.InnerFits.{PatternFits};
-ghost use Rattle.answers.specs.Answers.{out_verdict, out_sheet, out_checked, out_planned, out_pattern, out_part};
+ghost use Rattle.answers.specs.Answers.{out_verdict, out_code, out_sheet, out_checked, out_planned, out_pattern, out_part};
 
-use bits::{BitSets, SET_WIDTH, low_word};
-use families::Written;
-use planning::{Planned, PlanningAnswer};
-use plans::Checked;
-use refusals::Verdict;
+use bits::low_word;
+use codes::Code;
+use elimination::SetList;
+use planning::Planned;
+use refusals::{Refusal, Verdict};
 use views::Part;
 
 pub mod survivors; // survivors.rt: what the tester for survivors answers
@@ -91,104 +92,126 @@ pub struct OutPart {
     pub length: usize,
 }
 
-// A verdict, as it goes out.
-pub fn out_verdict(verdict: Verdict) -> OutVerdict
-    ensures { result ≡ out_verdict (outcome verdict) }
-{
-    match verdict {
-        Verdict::Fine => OutVerdict {
-            number: 0,
-            place: 0,
-        },
-        Verdict::Refused(refusal) => OutVerdict {
-            number: refusal.number(),
-            place: refusal.place(),
-        },
+impl From<Verdict> for OutVerdict {
+    ghost from_gives = { λ verdict out. out ≡ out_verdict (outcome verdict) };
+
+    fn from(verdict: Verdict) -> OutVerdict {
+        match verdict {
+            Ok(()) => OutVerdict {
+                number: 0,
+                place: 0,
+            },
+            Err(refusal) => OutVerdict {
+                number: refusal.number(),
+                place: refusal.place(),
+            },
+        }
     }
 }
 
-// A family's answer, as it goes out.
-pub fn out_sheet(written: Written) -> OutSheet
-    ensures { result ≡ out_sheet (as_written written) }
-{
-    match written {
-        Written::Sheet { length } => OutSheet {
-            number: 0,
-            place: 0,
-            length: length,
-        },
-        Written::Refused(refusal) => OutSheet {
-            number: refusal.number(),
-            place: refusal.place(),
-            length: 0,
-        },
+impl From<Result<Code, Refusal>> for OutCode {
+    ghost from_gives = { λ read out. out ≡ out_code (as_read read) };
+
+    fn from(read: Result<Code, Refusal>) -> OutCode {
+        match read {
+            Ok(code) => OutCode {
+                number: 0,
+                place: 0,
+                disks: code.layout.disks,
+                rows: code.layout.height,
+                data_symbols: code.data_symbols,
+                symbols: code.layout.symbols(),
+            },
+            Err(refusal) => OutCode {
+                number: refusal.number(),
+                place: refusal.place(),
+                disks: 0,
+                rows: 0,
+                data_symbols: 0,
+                symbols: 0,
+            },
+        }
     }
 }
 
-// The check's answer, as it goes out.
-pub fn out_checked(checked: Checked) -> OutChecked
-    ensures { result ≡ out_checked (as_checked checked) }
-{
-    match checked {
-        Checked::Accepted { reads } => OutChecked {
-            number: 0,
-            place: 0,
-            reads: reads,
-        },
-        Checked::Refused(refusal) => OutChecked {
-            number: refusal.number(),
-            place: refusal.place(),
-            reads: 0,
-        },
+impl From<Result<usize, Refusal>> for OutSheet {
+    ghost from_gives = { λ written out. out ≡ out_sheet (as_written written) };
+
+    fn from(written: Result<usize, Refusal>) -> OutSheet {
+        match written {
+            Ok(length) => OutSheet {
+                number: 0,
+                place: 0,
+                length,
+            },
+            Err(refusal) => OutSheet {
+                number: refusal.number(),
+                place: refusal.place(),
+                length: 0,
+            },
+        }
     }
 }
 
-// How many of the first `count` sets there are.
-pub fn listed_count(sets: BitSets, count: usize) -> usize
-    ensures { result ≡ length (take count (numerals sets)) }
-{
-    if count < SET_WIDTH {
-        return count;
+impl From<Result<usize, Refusal>> for OutChecked {
+    ghost from_gives = { λ checked out. out ≡ out_checked (as_checked checked) };
+
+    fn from(checked: Result<usize, Refusal>) -> OutChecked {
+        match checked {
+            Ok(reads) => OutChecked {
+                number: 0,
+                place: 0,
+                reads,
+            },
+            Err(refusal) => OutChecked {
+                number: refusal.number(),
+                place: refusal.place(),
+                reads: 0,
+            },
+        }
     }
-    SET_WIDTH
 }
 
-// Entry `index` of the first `count` sets, as a word; 0 behind them.
-pub fn listed_word(sets: BitSets, count: usize, index: usize) -> u64
-    ensures { result ≡ get_or (take count (numerals sets)) index 0 % 2 ^ 64 }
+impl From<Part> for OutPart {
+    ghost from_gives = { λ part out. out ≡ out_part part };
+
+    fn from(part: Part) -> OutPart {
+        OutPart {
+            slice: if part.in_spare { 1 } else { 0 },
+            start: part.start,
+            length: part.length,
+        }
+    }
+}
+
+// Entry `index` of a list of sets, as a word; 0 behind them.
+pub fn listed_word(sets: &SetList, index: usize) -> u64
+    ensures { result ≡ get_or (numerals sets.now.items) index 0 % 2 ^ 64 }
 {
-    if count <= index {
-        return 0;
+    match sets.as_slice().get(index) {
+        Some(set) => low_word(*set),
+        None => 0,
     }
-    if SET_WIDTH <= index {
-        return 0;
-    }
-    low_word(sets[index])
 }
 
 // Pattern `index` of planning's answer, as it goes out.
-pub fn out_pattern(answer: PlanningAnswer, index: usize) -> OutSet
-    ensures { result ≡ out_pattern (as_planned answer) index }
+pub fn out_pattern(answer: &Result<Planned, Refusal>, index: usize) -> OutSet
+    ensures { result ≡ out_pattern (as_planned answer.now) index }
 {
-    let planned = answer.planned;
-    let patterns = answer.patterns;
-    match planned {
-        Planned::Plan {
-            length: _,
-            reads: _,
-        } => OutSet {
+    match answer {
+        Ok(Planned::Plan { .. }) => OutSet {
             number: 0,
             place: 0,
             low: 0,
             high: 0,
         },
-        Planned::Patterns { count } => OutSet {
+        Ok(Planned::Patterns(patterns)) => OutSet {
             number: 0,
             place: 0,
-            low: listed_word(patterns, count, index),
+            low: listed_word(patterns, index),
             high: 0,
         },
-        Planned::Refused(refusal) => OutSet {
+        Err(refusal) => OutSet {
             number: refusal.number(),
             place: refusal.place(),
             low: 0,
@@ -198,33 +221,30 @@ pub fn out_pattern(answer: PlanningAnswer, index: usize) -> OutSet
 }
 
 // Planning's answer, as it goes out.
-pub fn out_planned(answer: PlanningAnswer) -> OutPlanned
-    requires { PatternFits (as_planned answer) }
-    ensures { result ≡ out_planned (as_planned answer) }
+pub fn out_planned(answer: &Result<Planned, Refusal>) -> OutPlanned
+    requires { PatternFits (as_planned answer.now) }
+    ensures { result ≡ out_planned (as_planned answer.now) }
 {
-    let planned = answer.planned;
-    let patterns = answer.patterns;
-    let first = low_word(patterns[0]);
-    match planned {
-        Planned::Plan { length, reads } => OutPlanned {
+    match answer {
+        Ok(Planned::Plan { length, reads }) => OutPlanned {
             number: 0,
             place: 0,
-            length: length,
-            reads: reads,
+            length: *length,
+            reads: *reads,
             pattern: 0,
             pattern_high: 0,
             patterns: 0,
         },
-        Planned::Patterns { count } => OutPlanned {
+        Ok(Planned::Patterns(patterns)) => OutPlanned {
             number: 0,
             place: 0,
             length: 0,
             reads: 0,
-            pattern: first,
+            pattern: listed_word(patterns, 0),
             pattern_high: 0,
-            patterns: listed_count(patterns, count),
+            patterns: patterns.len(),
         },
-        Planned::Refused(refusal) => OutPlanned {
+        Err(refusal) => OutPlanned {
             number: refusal.number(),
             place: refusal.place(),
             length: 0,
@@ -233,16 +253,5 @@ pub fn out_planned(answer: PlanningAnswer) -> OutPlanned
             pattern_high: 0,
             patterns: 0,
         },
-    }
-}
-
-// A part, as it goes out.
-pub fn out_part(part: Part) -> OutPart
-    ensures { result ≡ out_part part }
-{
-    OutPart {
-        slice: if part.in_spare { 1 } else { 0 },
-        start: part.start,
-        length: part.length,
     }
 }

@@ -4,9 +4,9 @@ ghost use Rattle.priced_planner.specs.PricedPlanner.{as_priced, unpriced};
 ghost use Rattle.answers.specs.InnerFits.{PatternFits};
 ghost use Rattle.answers.specs.PricedAnswers.{out_priced};
 
-use crate::listed_count;
-use bits::low_word;
-use priced_planner::{Priced, PricedAnswer};
+use crate::listed_word;
+use priced_planner::Priced;
+use refusals::Refusal;
 
 // A plan's length, read count and sum, with 1 for settled and 0 for stopped; or how many patterns there are and the first of them: navorzim_priced in C. Sets
 // are one word: pattern_high is 0.
@@ -25,42 +25,39 @@ pub struct OutPriced {
 }
 
 // The answer of priced planning, as it goes out.
-pub fn out_priced(answer: PricedAnswer) -> OutPriced
-    requires { PatternFits (unpriced (as_priced answer)) }
-    ensures { result ≡ out_priced (as_priced answer) }
+pub fn out_priced(answer: &Result<Priced, Refusal>) -> OutPriced
+    requires { PatternFits (unpriced (as_priced answer.now)) }
+    ensures { result ≡ out_priced (as_priced answer.now) }
 {
-    let priced = answer.priced;
-    let patterns = answer.patterns;
-    let first = low_word(patterns[0]);
-    match priced {
-        Priced::Plan {
+    match answer {
+        Ok(Priced::Plan {
             length,
             reads,
             sum,
             settled,
-        } => OutPriced {
+        }) => OutPriced {
             number: 0,
             place: 0,
-            length: length,
-            reads: reads,
-            settled: if settled { 1 } else { 0 },
-            sum: sum,
+            length: *length,
+            reads: *reads,
+            settled: if *settled { 1 } else { 0 },
+            sum: *sum,
             pattern: 0,
             pattern_high: 0,
             patterns: 0,
         },
-        Priced::Patterns { count } => OutPriced {
+        Ok(Priced::Patterns(patterns)) => OutPriced {
             number: 0,
             place: 0,
             length: 0,
             reads: 0,
             settled: 0,
             sum: 0.0,
-            pattern: first,
+            pattern: listed_word(patterns, 0),
             pattern_high: 0,
-            patterns: listed_count(patterns, count),
+            patterns: patterns.len(),
         },
-        Priced::Refused(refusal) => OutPriced {
+        Err(refusal) => OutPriced {
             number: refusal.number(),
             place: refusal.place(),
             length: 0,

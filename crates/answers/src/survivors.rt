@@ -3,8 +3,10 @@ ghost use Rattle.std.specs.Prelude.{◌≡◌};
 ghost use Rattle.soundness.specs.Survivors.{as_listed, as_tested};
 ghost use Rattle.answers.specs.SurvivorAnswers.{out_equations, out_equation, out_tested};
 
-use crate::{OutSet, listed_count, listed_word};
-use soundness::{EquationsAnswer, Listed, Tested};
+use crate::{OutSet, listed_word};
+use elimination::SetList;
+use refusals::Refusal;
+use soundness::Tested;
 
 // How many equations there are: navorzim_count in C.
 #[repr(C)]
@@ -25,40 +27,37 @@ pub struct OutTested {
     pub column: usize,
 }
 
-// The number of equations, as it goes out.
-pub fn out_equations(answer: EquationsAnswer) -> OutCount
-    ensures { result ≡ out_equations (as_listed answer) }
-{
-    let listed = answer.listed;
-    let equations = answer.equations;
-    match listed {
-        Listed::Equations { count } => OutCount {
-            number: 0,
-            place: 0,
-            count: listed_count(equations, count),
-        },
-        Listed::Refused(refusal) => OutCount {
-            number: refusal.number(),
-            place: refusal.place(),
-            count: 0,
-        },
+impl From<&Result<SetList, Refusal>> for OutCount {
+    ghost from_gives = { λ listed out. out ≡ out_equations (as_listed listed.now) };
+
+    fn from(listed: &Result<SetList, Refusal>) -> OutCount {
+        match listed {
+            Ok(equations) => OutCount {
+                number: 0,
+                place: 0,
+                count: equations.len(),
+            },
+            Err(refusal) => OutCount {
+                number: refusal.number(),
+                place: refusal.place(),
+                count: 0,
+            },
+        }
     }
 }
 
 // One equation, as it goes out.
-pub fn out_equation(answer: EquationsAnswer, index: usize) -> OutSet
-    ensures { result ≡ out_equation (as_listed answer) index }
+pub fn out_equation(listed: &Result<SetList, Refusal>, index: usize) -> OutSet
+    ensures { result ≡ out_equation (as_listed listed.now) index }
 {
-    let listed = answer.listed;
-    let equations = answer.equations;
     match listed {
-        Listed::Equations { count } => OutSet {
+        Ok(equations) => OutSet {
             number: 0,
             place: 0,
-            low: listed_word(equations, count, index),
+            low: listed_word(equations, index),
             high: 0,
         },
-        Listed::Refused(refusal) => OutSet {
+        Err(refusal) => OutSet {
             number: refusal.number(),
             place: refusal.place(),
             low: 0,
@@ -67,28 +66,29 @@ pub fn out_equation(answer: EquationsAnswer, index: usize) -> OutSet
     }
 }
 
-// The test's answer, as it goes out.
-pub fn out_tested(tested: Tested) -> OutTested
-    ensures { result ≡ out_tested (as_tested tested) }
-{
-    match tested {
-        Tested::Sound => OutTested {
-            number: 0,
-            place: 0,
-            sound: 1,
-            column: 0,
-        },
-        Tested::Unsound { column } => OutTested {
-            number: 0,
-            place: 0,
-            sound: 0,
-            column: column,
-        },
-        Tested::Refused(refusal) => OutTested {
-            number: refusal.number(),
-            place: refusal.place(),
-            sound: 0,
-            column: 0,
-        },
+impl From<Result<Tested, Refusal>> for OutTested {
+    ghost from_gives = { λ tested out. out ≡ out_tested (as_tested tested) };
+
+    fn from(tested: Result<Tested, Refusal>) -> OutTested {
+        match tested {
+            Ok(Tested::Sound) => OutTested {
+                number: 0,
+                place: 0,
+                sound: 1,
+                column: 0,
+            },
+            Ok(Tested::Unsound { column }) => OutTested {
+                number: 0,
+                place: 0,
+                sound: 0,
+                column,
+            },
+            Err(refusal) => OutTested {
+                number: refusal.number(),
+                place: refusal.place(),
+                sound: 0,
+                column: 0,
+            },
+        }
     }
 }

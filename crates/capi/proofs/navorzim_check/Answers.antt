@@ -7,5 +7,5 @@ use Rattle.capi.proofs.navorzim_check.Goals as goal
 pub returns : goal.returns
 returns c =
     let check = c.check_disk in
-    let told = c.out_checked.ensures in
+    let told = c.from.ensures in
     record { answer = told ∙ ap out_checked check.ensures.answer; demand2 = accepted_out_exactly check.result told check.ensures.demand2 }

@@ -6,4 +6,4 @@ use Rattle.capi.proofs.navorzim_encode.Goals as goal
 pub returns : goal.returns
 returns c =
     let encode = c.encode in
-    record { answer = c.out_verdict.ensures ∙ ap out_verdict encode.ensures.answer; stripe = encode.ensures.stripe }
+    record { answer = c.from.ensures ∙ ap out_verdict encode.ensures.answer; stripe = encode.ensures.stripe }

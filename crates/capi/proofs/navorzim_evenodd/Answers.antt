@@ -7,4 +7,4 @@ use Rattle.capi.proofs.navorzim_evenodd.Goals as goal
 pub returns : goal.returns
 returns c =
     let args = c.args in
-    let all = family_out (EvenOdd args.p) (length args.buffer.now) args.buffer.now _ c.out_sheet.ensures (c.write_family.ensures.answer, (c.write_family.ensures.buffer, c.write_family.ensures.read_back)) in record { answer = all.0; buffer = all.1.0; read_back = all.1.1 }
+    let all = family_out (EvenOdd args.p) (length args.buffer.now) args.buffer.now _ c.from.ensures (c.write_family.ensures.answer, (c.write_family.ensures.buffer, c.write_family.ensures.read_back)) in record { answer = all.0; buffer = all.1.0; read_back = all.1.1 }

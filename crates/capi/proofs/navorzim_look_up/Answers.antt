@@ -8,5 +8,5 @@ pub returns : goal.returns
 returns c =
     let args = c.args in
     let place = c.symbol_place in
-    let told = c.out_part.ensures in
+    let told = c.from.ensures in
     record { promised = record { goes_out = told ∙ ap out_part place.ensures.answer; shows = shows_out_of_two args.stripe.now args.spare.now told place.ensures.shows } }

@@ -4,4 +4,4 @@ use Rattle.answers.specs.Answers.{out_verdict}
 use Rattle.capi.proofs.navorzim_look_up_verdict.Goals as goal
 
 pub returns : goal.returns
-returns c = record { answer = c.out_verdict.ensures ∙ ap out_verdict (c.look_up_verdict.ensures.answer) }
+returns c = record { answer = c.from.ensures ∙ ap out_verdict (c.look_up_verdict.ensures.answer) }

@@ -6,4 +6,4 @@ use Rattle.capi.proofs.navorzim_rebuild_disks.Goals as goal
 
 pub returns : goal.returns
 returns c =
-    let rebuild = c.rebuild in record { answer = c.out_verdict.ensures ∙ ap out_verdict rebuild.ensures.answer; stripe = rebuild.ensures.stripe; restored = λ e. rebuild.ensures.restored (number_0_is_fine rebuild.result c.out_verdict.ensures e) }
+    let rebuild = c.rebuild in record { answer = c.from.ensures ∙ ap out_verdict rebuild.ensures.answer; stripe = rebuild.ensures.stripe; restored = λ e. rebuild.ensures.restored (number_0_is_fine rebuild.result c.from.ensures e) }

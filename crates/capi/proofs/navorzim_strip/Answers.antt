@@ -9,5 +9,5 @@ pub returns : goal.returns
 returns c =
     let args = c.args in
     let place = c.strip_place in
-    let told = c.out_part.ensures in
+    let told = c.from.ensures in
     let answer = told ∙ ap out_part place.ensures.answer in record { answer = answer; slice = strip_slice_0 args.sheet.now args.disk args.size (length args.stripe.now) answer; shows = shows_out told place.ensures.shows }
