@@ -1,6 +1,6 @@
 -- What a family's verdict says of the call: its answer, its buffer, and that a sheet is read back. Assumes nothing.
-use mathlib.Core.Path.{◌≡◌, refl, ap, ap₂, ◌∙◌}
-use mathlib.Core.Bool.{Bool, true, false}
+use mathlib.Core.Path.{◌≡◌, refl, sym, ap, ap₂, ◌∙◌}
+use mathlib.Core.Bool.{Bool, true, false, not}
 use mathlib.Core.List.{List}
 use Prim.Native.Nat.{ℕ, ◌≤◌}
 use native.Mathlib.Omega.{arith}
@@ -9,7 +9,7 @@ use lib.ListN.{length, take, drop}
 use lib.Seq.{take-append_seam}
 use borrow.Author.Tests.{ltb-false}
 use Rattle.codes.specs.Layouts.{symbols_of}
-use Rattle.refusals.specs.Orders.{Fine, Refused, or_if, Gives, Refuses}
+use Rattle.refusals.specs.Orders.{Outcome, Fine, Refused, or_if, Gives, Refuses}
 use Rattle.refusals.specs.Refusals.{Numbered, ◌at◌}
 use Rattle.sheets.specs.Buffers.{at_front}
 use Rattle.code_sheets.specs.CodeSheets.{sheet_length}
@@ -43,6 +43,11 @@ module _ (family : Family) (size : ℕ) where
       → or_if Fine (ltb size (length (family_sheet family))) (37 at 0) ≡ family_verdict family size
   unfolding family_verdict
   family_verdict_of_listed h = rw h
+
+  -- What 36 refuses is refused
+  pub family_verdict_first : (refusal : Numbered) → Refused refusal ≡ or_if Fine (not (listed family)) (36 at 0) → family_verdict family size ≡ Refused refusal
+  unfolding family_verdict
+  family_verdict_first refusal e = ap (λ (v : Outcome). or_if v (ltb size (length (family_sheet family))) (37 at 0)) (sym e)
 
   family_verdict_of_short_buffer : listed family ≡ true → ltb size (length (family_sheet family)) ≡ true
       → Refused (37 at 0) ≡ family_verdict family size
