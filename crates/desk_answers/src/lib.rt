@@ -8,7 +8,6 @@ use arrayvec::ArrayString;
 use checker::check;
 use code_sheets::read_code;
 use lines::{refusal_text, report};
-use refusals::Verdict;
 use sheets::{byte_at, two_bytes_at};
 
 // The code sheet, or what there is of it, and the plan sheet: what stands behind it, to the end.
@@ -26,14 +25,13 @@ pub fn desk_text(input: &[u8]) -> ArrayString<160>
     ensures { result.bytes ≡ desk_text input.now }
 {
     let (sheet, plan) = sheets_in(input);
-    let reading = read_code(sheet);
-    let verdict = reading.verdict;
-    let code = reading.code;
-    let Verdict::Refused(refusal) = verdict else {
-        let disk = byte_at(input, 0);
-        return report(code, disk, check(sheet, &[disk as u8], plan));
-    };
-    refusal_text(refusal)
+    match read_code(sheet) {
+        Ok(code) => {
+            let disk = byte_at(input, 0);
+            report(&code, disk, check(sheet, &[disk as u8], plan))
+        }
+        Err(refusal) => refusal_text(refusal),
+    }
 }
 
 // Copies a text to the front of a buffer that has room for it, and answers its length; else 0, and the buffer stays.

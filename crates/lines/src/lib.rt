@@ -11,7 +11,6 @@ ghost use Rattle.plans.specs.Check.{as_checked};
 
 use arrayvec::ArrayString;
 use codes::Code;
-use plans::Checked;
 use refusals::Refusal;
 use texts::push_labelled;
 
@@ -63,13 +62,13 @@ fn push_refusal(text: &mut ArrayString<160>, refusal: Refusal)
 }
 
 // The lines of what the check answers.
-fn push_answer(text: &mut ArrayString<160>, answer: Checked)
+fn push_answer(text: &mut ArrayString<160>, answer: Result<usize, Refusal>)
     requires { array_string_len text.old + 53 ≤ 160 }
     ensures { text.new.bytes ≡ text.old.bytes ++ answer_lines (as_checked answer) }
 {
     match answer {
-        Checked::Accepted { reads } => push_accepted(text, reads),
-        Checked::Refused(refusal) => push_refusal(text, refusal),
+        Ok(reads) => push_accepted(text, reads),
+        Err(refusal) => push_refusal(text, refusal),
     }
 }
 
@@ -83,8 +82,8 @@ pub fn refusal_text(refusal: Refusal) -> ArrayString<160>
 }
 
 // The lines for a code sheet that was read: the code, the disk, the answer.
-pub fn report(code: Code, disk: usize, answer: Checked) -> ArrayString<160>
-    ensures { result.bytes ≡ lines_of Fine (linear code) disk (as_checked answer) }
+pub fn report(code: &Code, disk: usize, answer: Result<usize, Refusal>) -> ArrayString<160>
+    ensures { result.bytes ≡ lines_of Fine (linear code.now) disk (as_checked answer) }
 {
     let layout = code.layout;
     let mut text = ArrayString::new();

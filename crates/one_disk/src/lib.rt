@@ -8,18 +8,17 @@ ghost use Rattle.refusals.specs.Orders.{Fine, outcome, Gives};
 ghost use Rattle.rebuild.specs.Rebuild.{rebuild_verdict, stripe_after, Restored};
 ghost use Rattle.code_sheets.specs.CodeReading.{reading};
 
-use checker::{Checked, check};
+use checker::check;
 use lists::disk_byte;
 use rebuild::rebuild;
-use refusals::Verdict;
+use refusals::{Refusal, Verdict};
 
 // Judges a plan sheet for a code sheet and a failed disk. It answers and changes nothing.
-pub fn check_disk(sheet: &[u8], disk: usize, plan: &[u8]) -> Checked
+pub fn check_disk(sheet: &[u8], disk: usize, plan: &[u8]) -> Result<usize, Refusal>
     ensures answer { as_checked result ≡ checked sheet.now (disk ∷ []) plan.now }
     ensures demand2 { (count : ℕ) → (as_checked result ≡ Gives count) ↔ DeservesAcceptance sheet.now (disk ∷ []) plan.now count }
 {
-    let disks = [disk_byte(disk)];
-    check(sheet, &disks[0..1], plan)
+    check(sheet, &[disk_byte(disk)], plan)
 }
 
 // Rebuilds the symbols of a failed disk that a plan wants. A refusal changes no byte.
@@ -34,6 +33,5 @@ pub fn rebuild_disk(
     ensures stripe { stripe.new ≡ stripe_after sheet.now (disk ∷ []) plan.now size stripe.old }
     ensures restored { outcome result ≡ Fine → Restored (reading sheet.now).code (disk ∷ []) plan.now size stripe.old stripe.new }
 {
-    let disks = [disk_byte(disk)];
-    rebuild(sheet, &disks[0..1], plan, size, stripe)
+    rebuild(sheet, &[disk_byte(disk)], plan, size, stripe)
 }

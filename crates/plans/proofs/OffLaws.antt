@@ -56,7 +56,6 @@ steps_never_21 count wanted known number place (s ∷ steps) e =
 -- What 21 says of the order behind the steps: nothing is unfilled, a symbol ends wrong, and the place is its row and data symbol
 end_refused_21 : (count origin unfilled wrong off stated true_count place : ℕ) → first_of (end_order count origin unfilled wrong off stated true_count) ≡ Refused (21 at place)
     → (count ≤ unfilled) × (wrong < count) × (place ≡ (wrong - origin) * places_per_row + off)
-unfolding or_if
 end_refused_21 count origin unfilled wrong off stated true_count place e =
     by_tests (ltb unfilled count) (ltb wrong count) refl refl
     (refused_before 21 place _ ((not (eqb stated true_count) gets 22 at true_count) ∷ []) refl e)

@@ -1,6 +1,6 @@
 -- The check as the code takes it: what was read of a sheet, the order behind the step limit, and what judging the steps needs.
 use Rattle.std.specs.Prelude.{◌≡◌, Bool, true, cond, List, [], ◌∷◌, ◌++◌, ℕ, ◌≤◌, ◌<◌, eqb}
-use Rattle.codes.specs.Codes.{LinearCode, WithinLimits}
+use Rattle.codes.specs.Codes.{LinearCode}
 use Rattle.bits.specs.BitSets.{has}
 use Rattle.bits.specs.Numerals.{set_width}
 use Rattle.lists.specs.Lists.{list_order, disk_faults, GoodDisks}
@@ -29,9 +29,8 @@ close_order disks edition failed apart lost_symbols count bad whole sheet_bytes 
     ++ list_order count (least_wanted edition) (cond (eqb edition 1) 0 lost_symbols) bad (23 at 0) (23 at bad)
     ++ length_faults whole sheet_bytes
 
--- What judging the steps needs: a code within the limits, disks and a list that are good, and the set of the lost symbols
+-- What judging the steps needs: disks and a list that are good, and the set of the lost symbols
 pub record PlanJudged (code : LinearCode) (disks : List ℕ) (gone : ℕ) (head : PlanHead) (list : List ℕ) : Type 0 where
-  pub within : WithinLimits code
   pub disks_good : GoodFailed code.layout head.edition disks
   pub gone_is : (s : ℕ) → has gone s ≡ lost code.layout disks s
   pub list_good : GoodWanted code.layout disks head.edition list

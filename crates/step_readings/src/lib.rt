@@ -1,7 +1,7 @@
 // A step of a plan sheet, read against the places known by then: a decoded step, or why it is refused.
 #![tactic(auto)]
 
-ghost use Rattle.std.specs.Prelude.{◌≡◌, ◌+◌, ◌≤◌, ◌<◌, length};
+ghost use Rattle.std.specs.Prelude.{◌≡◌, ◌+◌, ◌≤◌, ◌<◌, length, IfOk};
 ghost use Rattle.bits.specs.BitSets.{has};
 ghost use Rattle.bits.specs.Numerals.{set_width, numeral};
 ghost use Rattle.gf2.specs.Plans.{ready, NamesBelow};
@@ -9,41 +9,27 @@ ghost use Rattle.plan_sheets.specs.InnerPlanSheets.{StepsWithin};
 ghost use Rattle.plan_sheets.specs.PlanSheets.{step_at};
 ghost use Rattle.plans.specs.Judgement.{malformed, onto_itself, step_reading};
 ghost use Rattle.plans.specs.InnerProgress.{as_step};
-ghost use Rattle.refusals.specs.Orders.{outcome, outcome_of};
 
 use bits::{BitSet, has};
 use gf2::Step;
-use plan_sheets::step::{SheetStep, decoded, step_at};
-use plans::progress::StepReading;
-use refusals::{Refusal, Verdict};
+use plan_sheets::step::{SheetStep, step_at};
+use refusals::{Refusal, refuse_if};
 
 // 17: kind above 2, a number not below N, or clear with source not 0.
-fn malformed(step: SheetStep, symbols: usize) -> bool
+fn is_malformed(step: SheetStep, symbols: usize) -> bool
     ensures { result ≡ malformed symbols step }
 {
-    let kind = step.kind;
-    let target = step.target;
-    let source = step.source;
-    if 2 < kind {
-        return true;
-    }
-    if symbols <= target {
-        return true;
-    }
-    if symbols <= source {
-        return true;
-    }
-    kind == 0 && source != 0
+    2 < step.kind
+        || symbols <= step.target
+        || symbols <= step.source
+        || (step.kind == 0 && step.source != 0)
 }
 
 // 25: a copy or add whose source is its target; a clear has no source.
-fn onto_itself(step: SheetStep) -> bool
+fn is_onto_itself(step: SheetStep) -> bool
     ensures { result ≡ onto_itself step }
 {
-    let kind = step.kind;
-    let target = step.target;
-    let source = step.source;
-    kind != 0 && source == target
+    step.kind != 0 && step.source == step.target
 }
 
 // Whether every place that the step uses is known.
@@ -52,37 +38,35 @@ fn is_ready(step: Step, known: BitSet) -> bool
     ensures { result ≡ ready step (has (numeral known)) }
 {
     match step {
-        Step::Clear { target: _ } => true,
-        Step::Copy { target: _, source } => has(known, source),
+        Step::Clear { .. } => true,
+        Step::Copy { source, .. } => has(known, source),
         Step::Add { target, source } => has(known, target) && has(known, source),
     }
 }
 
 // In each step 17, 18, 25, 19.
+#[tactic(auto, unfolding(plans::specs::Judgement::step_reading))]
 fn judge_step(
     sheet_step: SheetStep,
     number: usize,
     symbols: usize,
     wanted: BitSet,
     known: BitSet,
-) -> StepReading
+) -> Result<Step, Refusal>
     requires { symbols ≤ set_width }
-    ensures { as_step result ≡ step_reading symbols (has (numeral wanted)) (has (numeral known)) number sheet_step }
+    ensures answer { as_step result ≡ step_reading symbols (has (numeral wanted)) (has (numeral known)) number sheet_step }
+    ensures named { IfOk result (NamesBelow set_width) }
 {
-    if malformed(sheet_step, symbols) {
-        return StepReading::Refused(Refusal::MalformedStep { step: number });
-    }
-    if !has(wanted, sheet_step.target) {
-        return StepReading::Refused(Refusal::TargetNotWanted { step: number });
-    }
-    if onto_itself(sheet_step) {
-        return StepReading::Refused(Refusal::StepOntoItself { step: number });
-    }
-    let step = decoded(sheet_step);
-    if !is_ready(step, known) {
-        return StepReading::Refused(Refusal::UnfilledPlaceUsed { step: number });
-    }
-    StepReading::Step(step)
+    let malformed = is_malformed(sheet_step, symbols);
+    refuse_if(malformed, Refusal::MalformedStep { step: number })?;
+    let is_wanted = has(wanted, sheet_step.target);
+    refuse_if(!is_wanted, Refusal::TargetNotWanted { step: number })?;
+    let onto_itself = is_onto_itself(sheet_step);
+    refuse_if(onto_itself, Refusal::StepOntoItself { step: number })?;
+    let step = Step::from(sheet_step);
+    let ready = is_ready(step, known);
+    refuse_if(!ready, Refusal::UnfilledPlaceUsed { step: number })?;
+    Ok(step)
 }
 
 // Step `number` of the sheet.
@@ -92,19 +76,10 @@ pub fn read_step(
     symbols: usize,
     wanted: BitSet,
     known: BitSet,
-) -> StepReading
+) -> Result<Step, Refusal>
     requires { (symbols ≤ set_width) × StepsWithin (number + 1) (length steps.now) }
-    ensures { as_step result ≡ step_reading symbols (has (numeral wanted)) (has (numeral known)) number (step_at steps.now number) }
+    ensures answer { as_step result ≡ step_reading symbols (has (numeral wanted)) (has (numeral known)) number (step_at steps.now number) }
+    ensures named { IfOk result (NamesBelow set_width) }
 {
     judge_step(step_at(steps, number), number, symbols, wanted, known)
-}
-
-// The verdict on a step that was read.
-pub fn verdict_of(reading: StepReading) -> Verdict
-    ensures { outcome result ≡ outcome_of (as_step reading) }
-{
-    match reading {
-        StepReading::Step(_) => Verdict::Fine,
-        StepReading::Refused(refusal) => Verdict::Refused(refusal),
-    }
 }

@@ -19,14 +19,3 @@ returns-then-same c =
     sym
     (none_holds_means_fine (lists ++ last)
     (none_holds_join lists last (no_fault_if_good_disks args.disks most args.failed.now (c.requires.1 c.if-same.true)) (ap not c.if-same.true, tt)))
-
-pub disks_test-requires : goal.disks_test-requires
-disks_test-requires c = c.requires.0
-
-pub returns : goal.returns
-returns c = rw (
-  c.or_if.ensures,
-  c.disks_test.ensures,
-  c.most_failed-most.ensures,
-  c.if-same.false,
-)

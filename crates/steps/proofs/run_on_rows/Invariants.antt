@@ -1,6 +1,5 @@
 -- The invariant of `steps::run_on_rows`: the verdict, the run, the places filled and the places read of all steps are those of the steps that remain,
--- from the state that is reached. The measure is the number of steps that remain.
-use Prim.Native.Nat.{◌-◌, ◌≤◌}
+-- from the state that is reached.
 use Rattle.bits.specs.BitSets.{has}
 use Rattle.bits.specs.Numerals.{numeral, numerals}
 use Rattle.plan_sheets.specs.PlanSheets.{sheet_steps}
@@ -9,8 +8,5 @@ use Rattle.plans.proofs.StepLaws.{Remaining}
 use Rattle.steps.proofs.run_on_rows.Given as goal
 
 abbrev pub invariant-loop-number : goal.invariant-loop-number
-invariant-loop-number l = (l.number ≤ l.count)
-    × Remaining l.symbols (has (numeral l.wanted)) (numerals l.initial.rows) (numeral l.initial.known) (sheet_steps l.count l.steps) (numerals l.rows) (numeral l.known) (numeral l.sources) l.number (steps_from l.count l.steps l.number)
-
-abbrev pub decreases-loop-number : goal.decreases-loop-number
-decreases-loop-number l = l.count - l.number
+invariant-loop-number l =
+    Remaining l.symbols (has (numeral l.wanted)) (numerals l.initial.rows) (numeral l.initial.known) (sheet_steps l.count l.steps) (numerals l.rows) (numeral l.known) (numeral l.sources) l.number (steps_from l.count l.steps l.number)

@@ -1,8 +1,0 @@
--- `checker::answer_of` meets its contract. Assumes nothing.
-use Rattle.checker.proofs.answer_of.Goals as goal
-
-pub returns-in-Fine : goal.returns-in-Fine
-returns-in-Fine c = rw c.in-Fine.is
-
-pub returns-in-Refused : goal.returns-in-Refused
-returns-in-Refused c = rw c.in-Refused.is
