@@ -17,8 +17,6 @@ use Rattle.bits.proofs.PaddedLaws.{get_or_padded, take_padded}
 use Rattle.codes.specs.Codes.{LinearCode, symbols, matrix}
 use Rattle.codes.proofs.LayoutLaws.{height_of_at_most}
 use Rattle.codes.proofs.LimitLaws.{layout_within}
-use Rattle.elimination.specs.InnerPatterns.{unit_patterns, ZeroBehind}
-use Rattle.elimination.proofs.PatternLaws.{unit_patterns_zero_behind, remaining_zero_behind}
 use Rattle.gf2.specs.InnerElimination.{remaining, pivots}
 use Rattle.gf2.specs.InnerSubsetPlans.{survivors}
 use Rattle.gf2.specs.Plans.{Within}
@@ -36,7 +34,7 @@ use Rattle.solve.specs.InnerSolving.{odd_pattern, wanted_subsets}
 use Rattle.solve.proofs.RowLaws.{get_or_subsets, subsets_below}
 use Rattle.plan_requests.specs.PlanRequests.{Asked, asked_symbols, least_buffer}
 use Rattle.planning.specs.Planning.{Found, APlan, APatterns}
-use Rattle.planning.specs.InnerWork.{Workable, RightSets, RightSteps, SheetWritten, sheet_of, Chosen, PatternsFrom, WorkedFrom, Worked}
+use Rattle.planning.specs.InnerWork.{Workable, RightSets, RightSteps, SheetWritten, sheet_of, SubsetsFound, PatternsLost, Chosen, PatternsFrom, WorkedFrom, Worked}
 use Rattle.planning.proofs.StripLaws.{lost_of_one}
 use Rattle.planning.proofs.WorkLaws.{targets, known_rows, patterns_left_by, pivots_from, pattern_found_by, patterns_gone_by, subset_from, steps_from, asked_is_lost, target_wanted, shown_rules_plans_out, right_if_sums, known_counted, subset_alive, subset_sums, steps_right_from, patterns_from}
 
@@ -58,17 +56,6 @@ one_entry : (list : List ℕ) → length list ≡ 1 → list ≡ get_or list 0 0
 one_entry [] e = absurd (omega arith)
 one_entry (entry ∷ []) e = refl
 one_entry (entry ∷ (other ∷ list)) e = absurd (omega arith)
-
--- The rows of the first n symbols, and 0 for those that are not known
-abbrev pub rows_given : LinearCode → ℕ → ℕ → List ℕ
-rows_given code n known = survivors (has known) (take n code.rows)
-
--- What elimination gave for what was asked: the known symbols' rows, their pivots, and the patterns left
-pub record EliminatedFor (code : LinearCode) (asked : Asked) (n known wanted : ℕ) (surviving found left : List ℕ) : Type 0 where
-  pub chosen : Chosen code asked n (has wanted) (has known)
-  pub surviving_are : take n surviving ≡ rows_given code n known
-  pub found_are : take n found ≡ pivots (unit_patterns code.data_symbols) (rows_given code n known)
-  pub left_are : left ≡ remaining (unit_patterns code.data_symbols) (rows_given code n known)
 
 module _ (code : LinearCode) (asked : Asked) {room : ℕ} (workable : Workable code asked room) where
   -- Each number listed can be in a set
@@ -149,63 +136,38 @@ module _ (code : LinearCode) (asked : Asked) {room : ℕ} (workable : Workable c
             sheet_first = first_sheet;
           }
 
-  module _ {n known wanted : ℕ} {surviving found left : List ℕ} (given : EliminatedFor code asked n known wanted surviving found left) where
-    rows_are : rows_given code n known ≡ known_rows code (has known)
-    rows_are = ap (λ (m : ℕ). survivors (has known) (take m code.rows)) given.chosen.count_is
+  module _ (known wanted : ℕ) (chosen : Chosen code asked (has wanted) (has known)) where
+    wanted_are : has wanted ≡ asked_symbols code asked
+    wanted_are = fun_ext chosen.wanted_are
 
-    -- Behind the last pattern zeros are left
-    pub left_zero_behind : ZeroBehind code.data_symbols left
-    left_zero_behind =
-        subst (ZeroBehind code.data_symbols) (sym given.left_are)
-        (remaining_zero_behind code.data_symbols (unit_patterns code.data_symbols) (rows_given code n known) (unit_patterns_zero_behind code.data_symbols))
+    -- Patterns answered tell what is gone
+    pub worked_patterns : {lost : List ℕ} → PatternsLost code (has known) (has wanted) lost → (before : List ℕ)
+        → WorkedFrom code asked (has known) before before (Gives (APatterns lost))
+    worked_patterns {lost} given before =
+        let told = subst (λ (set : ℕ → Bool). PatternsLost code (has known) set lost) wanted_are given in (
+          subst (PatternsFrom code asked (has known)) (sym told.are) (patterns_from code asked workable (has known) chosen.known_survive told.some_odd),
+          refl,
+        )
 
-    module _ {pattern : ℕ} (pattern_is : pattern ≡ odd_pattern left (take n code.rows) (symbols_in (has wanted) 0 n)) where
-      -- The pattern is the one that the laws speak of
-      is_found : pattern ≡ pattern_found_by code asked (has known)
-      is_found =
-          pattern_is
-          ∙ ap (λ (l : List ℕ). odd_pattern l (take n code.rows) (symbols_in (has wanted) 0 n)) (given.left_are ∙ ap (remaining (unit_patterns code.data_symbols)) rows_are)
-          ∙ ap₂ (λ (set : ℕ → Bool) (m : ℕ). odd_pattern (patterns_left_by code (has known)) (take m code.rows) (symbols_in set 0 m)) (fun_ext given.chosen.wanted_are) given.chosen.count_is
+    module _ {solved subsets : List ℕ} (given : SubsetsFound code (has known) (has wanted) solved) (subsets_are : subsets ≡ padded solved) where
+        told_subsets : SubsetsFound code (has known) (asked_symbols code asked) solved
+        told_subsets = subst (λ (set : ℕ → Bool). SubsetsFound code (has known) set solved) wanted_are given
 
-      -- Patterns answered tell what is gone
-      pub worked_patterns : eqb pattern 0 ≡ false → {count : ℕ} {sets : List ℕ}
-          → count ≡ length (lost_patterns left (survivors (has wanted) (take n code.rows)))
-          → sets ≡ padded (lost_patterns left (survivors (has wanted) (take n code.rows)))
-          → {answer : Answer Found} → answer ≡ Gives (APatterns (take count sets)) → (before : List ℕ) → WorkedFrom code asked (has known) before before answer
-      worked_patterns some {count} {sets} count_is sets_are answer_is before =
-          subst (WorkedFrom code asked (has known) before before) (sym answer_is) (
-            subst (PatternsFrom code asked (has known)) (sym are_gone)
-                (patterns_from code asked workable (has known) given.chosen.known_survive (λ none. eqb-false pattern 0 some (is_found ∙ none))),
-            refl,
-          )
-        where
-          are_gone : take count sets ≡ patterns_gone_by code asked (has known)
-          are_gone =
-              ap₂ (λ (m : ℕ) (l : List ℕ). take m l) count_is sets_are
-              ∙ take_padded (lost_patterns left (survivors (has wanted) (take n code.rows)))
-              ∙ ap (λ (l : List ℕ). lost_patterns l (survivors (has wanted) (take n code.rows))) (given.left_are ∙ ap (remaining (unit_patterns code.data_symbols)) rows_are)
-              ∙ ap₂ (λ (set : ℕ → Bool) (m : ℕ). lost_patterns (patterns_left_by code (has known)) (survivors set (take m code.rows))) (fun_ext given.chosen.wanted_are) given.chosen.count_is
+        -- No pattern is odd on a wanted row
+        none_found : pattern_found_by code asked (has known) ≡ 0
+        none_found = told_subsets.none_odd
 
-      module _ (none : eqb pattern 0 ≡ true) {subsets : List ℕ}
-          (subsets_are : subsets ≡ padded (wanted_subsets (take n found) (take n surviving) (take n code.rows) n (has wanted))) where
         -- The subsets as the laws speak of them
         abbrev as_solved : List ℕ
         as_solved = wanted_subsets (pivots_from code (has known)) (known_rows code (has known)) (matrix code) (symbols code) (asked_symbols code asked)
 
         are_solved : (t : ℕ) → get_or subsets t 0 ≡ get_or as_solved t 0
-        are_solved t =
-            ap (λ (l : List ℕ). get_or l t 0)
-            (subsets_are
-            ∙ ap₂ (λ (a b : List ℕ). padded (wanted_subsets a b (take n code.rows) n (has wanted)))
-            (given.found_are ∙ ap (pivots (unit_patterns code.data_symbols)) rows_are) (given.surviving_are ∙ rows_are)
-            ∙ ap₂ (λ (set : ℕ → Bool) (m : ℕ). padded (wanted_subsets (pivots_from code (has known)) (known_rows code (has known)) (take m code.rows) m set))
-            (fun_ext given.chosen.wanted_are) given.chosen.count_is)
-            ∙ get_or_padded as_solved t
+        are_solved t = ap (λ (l : List ℕ). get_or l t 0) (subsets_are ∙ ap padded told_subsets.are) ∙ get_or_padded as_solved t
 
         -- The steps from the subsets are elimination's
         pub steps_are : subset_plan (symbols code) (has wanted) subsets ≡ steps_from code asked (has known)
         steps_are =
-            ap (λ (set : ℕ → Bool). subset_plan (symbols code) set subsets) (fun_ext given.chosen.wanted_are)
+            ap (λ (set : ℕ → Bool). subset_plan (symbols code) set subsets) (fun_ext chosen.wanted_are)
             ∙ plan_of_same (λ t. get_or subsets t 0) (subset_from code (has known)) (symbols code) (targets code asked) same
           where
             same : (t : ℕ) → Memᴰ t (targets code asked) → get_or subsets t 0 ≡ subset_from code (has known) t
@@ -220,13 +182,13 @@ module _ (code : LinearCode) (asked : Asked) {room : ℕ} (workable : Workable c
         subset_steps_right : RightSteps code asked (source_count (symbols code) (subset_plan (symbols code) (has wanted) subsets)) (subset_plan (symbols code) (has wanted) subsets)
         subset_steps_right =
             subst (λ (plan : List Step). RightSteps code asked (source_count (symbols code) plan) plan) (sym steps_are)
-            (steps_right_from code asked workable (has known) given.chosen.known_survive (sym is_found ∙ eqb-true pattern 0 none))
+            (steps_right_from code asked workable (has known) chosen.known_survive none_found)
 
         -- The subsets are of the array's symbols
         are_below : (t : ℕ) → get_or subsets t 0 < 2 ^ symbols code
         are_below t =
             subst (λ (subset : ℕ). subset < 2 ^ symbols code) (sym (are_solved t))
-            (subst (λ (m : ℕ). get_or as_solved t 0 < 2 ^ m) (known_counted code asked workable (has known) given.chosen.known_survive)
+            (subst (λ (m : ℕ). get_or as_solved t 0 < 2 ^ m) (known_counted code asked workable (has known) chosen.known_survive)
             (subsets_below (pivots_from code (has known)) (known_rows code (has known)) (matrix code) (symbols code) (asked_symbols code asked) t))
 
         -- They are sets of survivors that sum to the wanted rows
@@ -252,10 +214,10 @@ module _ (code : LinearCode) (asked : Asked) {room : ℕ} (workable : Workable c
                 → Within (has (get_or subsets t 0)) (survives code.layout asked.disks) × (wish ≡ true → select (matrix code) (get_or subsets t 0) ≡ get_or (matrix code) t 0)
             by_wish t true is_wanted =
                 let same = entry t ∙ ap (λ (c : Bool). cond c (subset_from code (has known) t) 0) is_wanted in (
-                  subst (λ (set : ℕ). Within (has set) (survives code.layout asked.disks)) (sym same) (subset_alive code asked workable (has known) given.chosen.known_survive t),
+                  subst (λ (set : ℕ). Within (has set) (survives code.layout asked.disks)) (sym same) (subset_alive code asked workable (has known) chosen.known_survive t),
                   λ yes.
                       ap (select (matrix code)) same
-                      ∙ subset_sums code asked workable (has known) given.chosen.known_survive (sym is_found ∙ eqb-true pattern 0 none) t is_wanted,
+                      ∙ subset_sums code asked workable (has known) chosen.known_survive none_found t is_wanted,
                 )
             by_wish t false not_wanted =
                 let same = entry t ∙ ap (λ (c : Bool). cond c (subset_from code (has known) t) 0) not_wanted in (

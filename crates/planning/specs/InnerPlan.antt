@@ -3,8 +3,7 @@
 use Rattle.std.specs.Prelude.{Bool, List, ℕ, get_or}
 use Rattle.bits.specs.Lists.{symbols_in}
 use Rattle.codes.specs.Codes.{LinearCode, symbols, matrix}
-use Rattle.elimination.specs.InnerPatterns.{unit_patterns}
-use Rattle.gf2.specs.InnerElimination.{remaining, pivots, back_substitute}
+use Rattle.gf2.specs.InnerElimination.{remaining, pivots, units, back_substitute}
 use Rattle.gf2.specs.InnerSubsetPlans.{plan_of, survivors}
 use Rattle.gf2.specs.declared.Step.{Step}
 use Rattle.plan_requests.specs.PlanRequests.{Asked, asked_symbols}
@@ -25,10 +24,10 @@ known_rows code known = survivors known (matrix code)
 
 -- The patterns that remain after them, and their pivots
 abbrev pub patterns_left_by : LinearCode → (ℕ → Bool) → List ℕ
-patterns_left_by code known = remaining (unit_patterns code.data_symbols) (known_rows code known)
+patterns_left_by code known = remaining (units code.data_symbols) (known_rows code known)
 
 abbrev pub pivots_from : LinearCode → (ℕ → Bool) → List ℕ
-pivots_from code known = pivots (unit_patterns code.data_symbols) (known_rows code known)
+pivots_from code known = pivots (units code.data_symbols) (known_rows code known)
 
 -- The first of the patterns that is odd on a wanted row
 abbrev pub pattern_found_by : LinearCode → Asked → (ℕ → Bool) → ℕ

@@ -1,0 +1,66 @@
+-- `planning::subsets_from` meets its contract: the rows are the code's. Assumes nothing.
+use mathlib.Core.Path.{◌≡◌, sym, ap, ap₂, ◌∙◌, subst}
+use mathlib.Core.List.{List}
+use Prim.Native.Nat.{ℕ, ◌≤◌}
+use native.Mathlib.Omega.{arith}
+use borrow.Author.Tests.{eqb-true, eqb-false}
+use lib.ListN.{length, take}
+use lib.Seq.{length-take-le}
+use Rattle.bits.specs.BitSets.{has}
+use Rattle.bits.specs.Lists.{symbols_in}
+use Rattle.bits.specs.Numerals.{set_width, numeral, numerals}
+use Rattle.bits.specs.declared.BitSet.{BitSet}
+use Rattle.bits.proofs.NumeralLaws.{length_numerals}
+use Rattle.codes.specs.Codes.{LinearCode, linear, symbols, matrix, WithinLimits}
+use Rattle.gf2.specs.InnerElimination.{remaining, pivots, units}
+use Rattle.gf2.specs.InnerSubsetPlans.{survivors}
+use Rattle.solve.specs.InnerSolving.{odd_pattern, wanted_subsets}
+use Rattle.spans.specs.InnerSpans.{lost_patterns}
+use Rattle.planning.proofs.subsets_from.Goals as goal
+
+-- There is a row for each symbol
+one_each : (code : LinearCode) → WithinLimits code → (rows : List BitSet) → numerals rows ≡ matrix code → length rows ≡ symbols code
+one_each code within rows rows_are =
+    sym (length_numerals rows) ∙ ap (λ (l : List ℕ). length l) rows_are
+    ∙ length-take-le (symbols code) code.rows (omega (arith, within.rows_held, within.symbols_to))
+
+-- No more than a set can have
+few : (code : LinearCode) → WithinLimits code → (rows : List BitSet) → numerals rows ≡ matrix code → length rows ≤ set_width
+few code within rows rows_are = omega (arith, one_each code within rows rows_are, within.symbols_to)
+
+pub eliminate_known-eliminated-requires-clause-rows_fit : goal.eliminate_known-eliminated-requires-clause-rows_fit
+eliminate_known-eliminated-requires-clause-rows_fit c = few (linear c.args.code.now) c.args.code.now.within _ c.matrix-rows.ensures
+
+pub odd_pattern-requires : goal.odd_pattern-requires
+odd_pattern-requires c = few (linear c.args.code.now) c.args.code.now.within _ c.matrix-rows.ensures
+
+pub lost_patterns-requires : goal.lost_patterns-requires
+lost_patterns-requires c = few (linear c.args.code.now) c.args.code.now.within _ c.matrix-rows.ensures
+
+pub wanted_subsets-requires : goal.wanted_subsets-requires
+wanted_subsets-requires c = few (linear c.args.code.now) c.args.code.now.within _ c.matrix-rows.ensures
+
+pub returns-then-not-is_empty-clause-lost : goal.returns-then-not-is_empty-clause-lost
+returns-then-not-is_empty-clause-lost c =
+    let code = linear c.args.code.now in
+    let rows = c.matrix-rows.ensures in
+    let count = one_each code c.args.code.now.within _ rows in
+    let solved = c.eliminate_known-eliminated.ensures in
+    let left = solved.remaining in
+    let pattern = rw (left, rows, count) at c.odd_pattern.ensures in
+    record {
+      some_odd = λ none. eqb-false _ 0 (sym c.is_empty.ensures ∙ c.if-not-is_empty.true) (pattern ∙ none);
+      are = rw (left, rows) at c.lost_patterns.ensures;
+    }
+
+pub returns-clause-found : goal.returns-clause-found
+returns-clause-found c =
+    let code = linear c.args.code.now in
+    let rows = c.matrix-rows.ensures in
+    let count = one_each code c.args.code.now.within _ rows in
+    let solved = c.eliminate_known-eliminated.ensures in
+    let pattern = rw (solved.remaining, rows, count) at c.odd_pattern.ensures in
+    record {
+      none_odd = sym pattern ∙ eqb-true _ 0 (sym c.is_empty.ensures ∙ c.if-not-is_empty.false);
+      are = rw (solved.pivots, solved.surviving, rows, count) at c.wanted_subsets.ensures;
+    }
