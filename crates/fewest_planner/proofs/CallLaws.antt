@@ -105,6 +105,20 @@ module _ (code_sheet : List ℕ) (asked : Asked) (before : List ℕ) (fits : Edi
         fewest = subst (λ (r : CodeRead). FewestReads r.code asked answer) as_read (fewest (few_subsets e));
       }
 
+-- A code sheet that is refused: the refusal is the answer
+pub promised_if_unread : (code_sheet : List ℕ) (asked : Asked) (before : List ℕ) (refusal : Numbered) → (reading code_sheet).verdict ≡ Refused refusal
+    → PromisedFewest code_sheet asked before before (Refuses refusal)
+unfolding fewest_verdict
+promised_if_unread code_sheet asked before refusal e =
+    let faults = fewest_faults (reading code_sheet).code.layout asked (length before) in
+    let verdict : fewest_verdict code_sheet asked (length before) ≡ Refused refusal = ap (λ (v : Outcome). and_then v faults) e ∙ refusal_stands refusal faults in
+    record {
+      refusal = sym verdict;
+      buffer = refl;
+      as_planning = λ fine. absurd (refused_is_not_fine (sym verdict ∙ fine));
+      fewest = tt;
+    }
+
 -- Where the call refuses nothing for a code sheet, the work may be done
 pub workable_if_fewest_fine : (code_sheet : List ℕ) → ((reading code_sheet).verdict ≡ Fine → WithinLimits (reading code_sheet).code) → (asked : Asked) (before : List ℕ)
     → EditionFits asked.edition asked.disks asked.wanted → fewest_verdict code_sheet asked (length before) ≡ Fine → Workable (reading code_sheet).code asked (length before)

@@ -161,10 +161,10 @@ module _ (code : LinearCode) (asked : Asked) {room : ℕ} (workable : Workable c
   worked_fewest before after (Refuses refusal) worked = absurd worked
 
 -- What was chosen from sets that hold the survivors and the wanted symbols of the array
-pub fewest_for : (code : LinearCode) (asked : Asked) (n known wanted branchings : ℕ) {chosen : ℕ → Bool} → n ≡ symbols code
+pub fewest_for : (code : LinearCode) (asked : Asked) (rows : List ℕ) (known wanted branchings : ℕ) {chosen : ℕ → Bool} → rows ≡ matrix code
     → ((s : ℕ) → has known s ≡ survives code.layout asked.disks s) → ((s : ℕ) → has wanted s ≡ asked_symbols code asked s)
-    → Fewest (take n code.rows) (has known) (has wanted) branchings chosen → Fewest (matrix code) (survives code.layout asked.disks) (asked_symbols code asked) branchings chosen
-fewest_for code asked n known wanted branchings {chosen} count_is known_are wanted_are fewest =
-    subst (λ (m : ℕ). Fewest (take m code.rows) (survives code.layout asked.disks) (asked_symbols code asked) branchings chosen) count_is
-    (subst (λ (set : ℕ → Bool). Fewest (take n code.rows) set (asked_symbols code asked) branchings chosen) (fun_ext known_are)
-    (subst (λ (set : ℕ → Bool). Fewest (take n code.rows) (has known) set branchings chosen) (fun_ext wanted_are) fewest))
+    → Fewest rows (has known) (has wanted) branchings chosen → Fewest (matrix code) (survives code.layout asked.disks) (asked_symbols code asked) branchings chosen
+fewest_for code asked rows known wanted branchings {chosen} rows_are known_are wanted_are fewest =
+    subst (λ (m : List ℕ). Fewest m (survives code.layout asked.disks) (asked_symbols code asked) branchings chosen) rows_are
+    (subst (λ (set : ℕ → Bool). Fewest rows set (asked_symbols code asked) branchings chosen) (fun_ext known_are)
+    (subst (λ (set : ℕ → Bool). Fewest rows (has known) set branchings chosen) (fun_ext wanted_are) fewest))

@@ -16,17 +16,8 @@ use Rattle.gf2.specs.InnerElimination.{remaining, pivots, units}
 use Rattle.gf2.specs.InnerSubsetPlans.{survivors}
 use Rattle.solve.specs.InnerSolving.{odd_pattern, wanted_subsets}
 use Rattle.spans.specs.InnerSpans.{lost_patterns}
+use Rattle.planning.proofs.RowLaws.{one_each, few}
 use Rattle.planning.proofs.subsets_from.Goals as goal
-
--- There is a row for each symbol
-one_each : (code : LinearCode) → WithinLimits code → (rows : List BitSet) → numerals rows ≡ matrix code → length rows ≡ symbols code
-one_each code within rows rows_are =
-    sym (length_numerals rows) ∙ ap (λ (l : List ℕ). length l) rows_are
-    ∙ length-take-le (symbols code) code.rows (omega (arith, within.rows_held, within.symbols_to))
-
--- No more than a set can have
-few : (code : LinearCode) → WithinLimits code → (rows : List BitSet) → numerals rows ≡ matrix code → length rows ≤ set_width
-few code within rows rows_are = omega (arith, one_each code within rows rows_are, within.symbols_to)
 
 pub eliminate_known-eliminated-requires-clause-rows_fit : goal.eliminate_known-eliminated-requires-clause-rows_fit
 eliminate_known-eliminated-requires-clause-rows_fit c = few (linear c.args.code.now) c.args.code.now.within _ c.matrix-rows.ensures

@@ -1,17 +1,19 @@
 -- `fewest_planner::work::work_out_fewest` meets its contract: the work from a smallest set of survivors that is enough. Assumes nothing.
 use mathlib.Core.Path.{sym, ◌∙◌, subst}
+use mathlib.Core.List.{List}
 use Prim.Native.Nat.{ℕ}
 use native.Mathlib.Omega.{arith}
-use lib.ListN.{take}
-use Rattle.bits.specs.Numerals.{numeral}
+use Rattle.bits.specs.Numerals.{numeral, numerals}
 use Rattle.codes.specs.Codes.{LinearCode, linear}
 use Rattle.codes.proofs.LimitLaws.{layout_within}
 use Rattle.gf2.specs.Selection.{Below}
-use Rattle.plan_requests.specs.PlanRequests.{Asked}
-use Rattle.planning.specs.Planning.{as_planned}
+use Rattle.plan_requests.specs.PlanRequests.{asked_by}
+use Rattle.planning.specs.Planning.{as_found}
 use Rattle.planning.proofs.ResultLaws.{listed_small, disks_below}
+use Rattle.planning.proofs.RowLaws.{one_each, few}
 use Rattle.planning.proofs.WorkLaws.{asked_is_lost}
 use Rattle.plans.proofs.JudgementLaws.{matrix_below, survives_below, lost_below}
+use Rattle.refusals.specs.Orders.{Gives}
 use Rattle.fewest_planner.proofs.ReadLaws.{fewest_for, worked_fewest}
 use Rattle.fewest_planner.proofs.work.work_out_fewest.Goals as goal
 
@@ -28,14 +30,17 @@ loss_of-loss-requires c = (
 
 pub fewest-chosen-requires : goal.fewest-chosen-requires
 fewest-chosen-requires c =
-    let code : LinearCode = linear c.args.code in
+    let code : LinearCode = linear c.args.code.now in
+    let disks = c.args.request.disks.now in
     let within = c.requires.within in
+    let rows = c.matrix.ensures in
+    let each = one_each code within _ rows in
     let loss = c.loss_of-loss.ensures in (
-      omega (arith, loss.symbols, within.symbols_to),
+      few code within _ rows,
       omega (arith, within.data_to),
-      subst (λ (m : ℕ). Below code.data_symbols (take m code.rows)) (sym loss.symbols) (matrix_below _ within),
-      λ s h. omega (arith, loss.symbols, survives_below code.layout c.args.disks.now s (sym (loss.survivors s) ∙ h)),
-      λ s h. omega (arith, loss.symbols, lost_below code.layout c.args.disks.now s (asked_is_lost _ _ c.requires s (sym (loss.wanted s) ∙ h))),
+      subst (Below code.data_symbols) (sym rows) (matrix_below _ within),
+      λ s h. omega (arith, each, survives_below code.layout disks s (sym (loss.survivors s) ∙ h)),
+      λ s h. omega (arith, each, lost_below code.layout disks s (asked_is_lost _ _ c.requires s (sym (loss.wanted s) ∙ h))),
     )
 
 pub work_from-requires : goal.work_from-requires
@@ -43,7 +48,6 @@ work_from-requires c =
     let loss = c.loss_of-loss.ensures in (
       c.requires,
       record {
-        count_is = loss.symbols;
         wanted_are = loss.wanted;
         known_survive = λ s h. sym (loss.survivors s) ∙ c.fewest-chosen.ensures.within s h;
       },
@@ -51,11 +55,11 @@ work_from-requires c =
 
 pub returns : goal.returns
 returns c =
-    let code : LinearCode = linear c.args.code in
-    let asked : Asked = record { edition = c.args.edition; disks = c.args.disks.now; wanted = c.args.list.now } in
+    let code : LinearCode = linear c.args.code.now in
+    let asked = asked_by c.args.request in
     let loss = c.loss_of-loss in
     let worked = c.work_from in
     let all = worked_fewest code asked c.requires c.args.branchings _
-    (fewest_for code asked loss.result.symbols (numeral loss.result.survivors) (numeral loss.result.wanted) c.args.branchings loss.ensures.symbols loss.ensures.survivors loss.ensures.wanted
+    (fewest_for code asked _ (numeral loss.result.survivors) (numeral loss.result.wanted) c.args.branchings c.matrix.ensures loss.ensures.survivors loss.ensures.wanted
     c.fewest-chosen.ensures)
-    c.args.buffer.now _ (as_planned worked.result) worked.ensures in record { worked = all.0; fewest = all.1 }
+    c.args.buffer.now _ (Gives (as_found worked.result)) worked.ensures in record { worked = all.0; fewest = all.1 }
