@@ -1,5 +1,5 @@
 -- Laws of the calls: what their verdicts say, and what the equations and the lowest column say of a code. Assumes nothing.
-use mathlib.Core.Path.{◌≡◌, sym, ap, ap₂, ◌∙◌, subst, fun_ext}
+use mathlib.Core.Path.{◌≡◌, refl, sym, ap, ap₂, ◌∙◌, subst, fun_ext}
 use mathlib.Core.Bool.{Bool, cond}
 use mathlib.Core.List.{List}
 use mathlib.Core.Logic.{◌↔◌}
@@ -18,8 +18,7 @@ use Rattle.codes.specs.Layouts.{symbols_of}
 use Rattle.codes.specs.Lengths.{stripe_faults}
 use Rattle.codes.specs.declared.Layout.{Layout}
 use Rattle.soundness.specs.InnerColumns.{LowestFailing}
-use Rattle.elimination.specs.InnerPatterns.{unit_patterns}
-use Rattle.elimination.proofs.PatternLaws.{unit_patterns_start}
+use Rattle.gf2.specs.InnerElimination.{units}
 use Rattle.gf2.specs.InnerElimination.{pivots, back_substitute}
 use Rattle.gf2.specs.InnerSubsetPlans.{survivors}
 use Rattle.gf2.specs.Stripes.{AreBytes}
@@ -83,38 +82,16 @@ test_fine layout disks size stripe_bytes read fine =
 
 module _ (code : LinearCode) (within : WithinLimits code) (disks : List ℕ) where
   -- The equations that were worked out are among the survivors, right and enough
-  module _ (known : ℕ) {n count : ℕ} {sets : List ℕ} (n-is : n ≡ symbols code) (known_are : (s : ℕ) → has known s ≡ survives code.layout disks s)
-      (count_is : count ≡ length (equations_of (unit_patterns code.data_symbols) (has known) (take n code.rows)))
-      (sets_are : sets ≡ padded (equations_of (unit_patterns code.data_symbols) (has known) (take n code.rows))) where
-    of_code : equations_of (unit_patterns code.data_symbols) (has known) (take n code.rows) ≡ equations_of (unit_patterns code.data_symbols) (survives code.layout disks) (matrix code)
-    of_code =
-        ap₂ (λ (set : ℕ → Bool) (m : ℕ). equations_of (unit_patterns code.data_symbols) set (take m code.rows)) (fun_ext known_are) n-is
+  module _ (known : ℕ) {equations : List ℕ} (known_are : (s : ℕ) → has known s ≡ survives code.layout disks s)
+      (are : equations ≡ equations_of (units code.data_symbols) (has known) (matrix code)) where
+    pub are_equations : equations ≡ survivor_equations code disks
+    are_equations = are ∙ ap (λ (set : ℕ → Bool). equations_of (units code.data_symbols) set (matrix code)) (fun_ext known_are)
 
-    pub are_equations : take count sets ≡ survivor_equations code disks
-    are_equations =
-        ap₂ (λ (m : ℕ) (l : List ℕ). take m l) count_is sets_are
-        ∙ take_padded (equations_of (unit_patterns code.data_symbols) (has known) (take n code.rows))
-        ∙ of_code
-
-    pub equations_for_code : EquationsFor code disks (take count sets)
+    pub equations_for_code : EquationsFor code disks equations
     equations_for_code =
         subst (EquationsFor code disks) (sym are_equations)
-        (equations_right_and_enough code.data_symbols (unit_patterns code.data_symbols) (unit_patterns_start code.data_symbols) (matrix code) (matrix_below code within)
+        (equations_right_and_enough code.data_symbols (units code.data_symbols) (λ i. refl) (matrix code) (matrix_below code within)
         (survives code.layout disks) (matrix_survives_below code within disks))
-
-    pub few_equations : count ≤ set_width
-    few_equations =
-        let surviving = survivors (survives code.layout disks) (matrix code) in
-        let found = pivots (unit_patterns code.data_symbols) surviving in
-        omega (
-          arith,
-          count_is,
-          ap {B = ℕ} length of_code,
-          length_nonempty (row_equations found surviving (length (matrix code)) (unpivoted found (survives code.layout disks))),
-          length_tabulate (length (matrix code)) (λ j. cond (unpivoted found (survives code.layout disks) j) (bit_xor (back_substitute found surviving (get_or surviving j 0)) (2 ^ j)) 0),
-          length_matrix code within,
-          within.symbols_to,
-        )
 
   -- The lowest column in which one fails says whether the survivors can be sound
   module _ (size : ℕ) (stripe : List ℕ) (stripe_bytes : AreBytes stripe) (whole : length stripe ≡ symbols code * size) {equations : List ℕ} (among : EquationsFor code disks equations)

@@ -1,23 +1,23 @@
 -- A tester for survivors (document 02, §8): "From a code and a set of lost disks, work out a list of equations among survivors; then, over a lent stripe,
 -- answer yes exactly if some valid stripe agrees on every surviving byte. A no names the lowest byte column within a symbol for which none exists. Nothing
 -- is written. Prove the equations enough and right for any code, once. Which such list is given is free. Refusals: code sheet, 7, 24, 31, 32."
-use Rattle.std.specs.Prelude.{◌≡◌, List, ◌++◌, ◌↔◌, ℕ, length, take}
+use Rattle.std.specs.Prelude.{◌≡◌, List, ◌++◌, ◌↔◌, ℕ, length, Result, Ok, Err}
+use Rattle.arrayvec.specs.ArrayVec.{ArrayVec}
 use Rattle.bits.specs.Numerals.{numerals}
+use Rattle.bits.specs.declared.BitSet.{BitSet}
 use Rattle.code_sheets.specs.CodeReading.{reading}
 use Rattle.codes.specs.Codes.{LinearCode, matrix}
 use Rattle.codes.specs.Layouts.{symbols_of}
 use Rattle.codes.specs.Lengths.{stripe_faults}
 use Rattle.codes.specs.declared.Layout.{Layout}
-use Rattle.elimination.specs.InnerPatterns.{unit_patterns}
+use Rattle.gf2.specs.InnerElimination.{units}
 use Rattle.plans.specs.Check.{asked_faults}
 use Rattle.plans.specs.Judgement.{survives}
 use Rattle.refusals.specs.Orders.{Fault, Outcome, Fine, Answer, Gives, Refuses, and_then, outcome_of}
 use Rattle.refusals.specs.Refusals.{numbered}
-use Rattle.soundness.specs.declared.Listed.{Listed}
-use Rattle.soundness.specs.declared.Listed.TheVariants as Lists
-use Rattle.soundness.specs.declared.EquationsAnswer.{EquationsAnswer}
+use Rattle.refusals.specs.declared.Refusal.{Refusal}
 use Rattle.soundness.specs.declared.Tested.{Tested}
-use Rattle.soundness.specs.declared.Tested.TheVariants.{Sound, Unsound, Refused}
+use Rattle.soundness.specs.declared.Tested.TheVariants.{Sound, Unsound}
 use Rattle.spans.specs.Equations.{EquationsAmong}
 use Rattle.spans.specs.InnerSpans.{equations_of}
 use Rattle.spans.specs.Soundness.{SomeValidAgrees, LowestWithoutAgreement}
@@ -40,13 +40,10 @@ test_verdict code_sheet disks size stripe_bytes = and_then (reading code_sheet).
 -- ------------------------------------------------------------------
 -- The list of equations
 
--- What an `EquationsAnswer` stands for
-abbrev pub with_equations : List ℕ → Listed → Answer (List ℕ)
-with_equations equations (Lists.Equations count) = Gives (take count equations)
-with_equations equations (Lists.Refused refusal) = Refuses (numbered refusal)
-
-abbrev pub as_listed : EquationsAnswer → Answer (List ℕ)
-as_listed answer = with_equations (numerals answer.equations) answer.listed
+-- What the result stands for
+abbrev pub as_listed : Result (ArrayVec BitSet) Refusal → Answer (List ℕ)
+as_listed (Ok equations) = Gives (numerals equations.items)
+as_listed (Err refusal) = Refuses (numbered refusal)
 
 -- The equations are among the survivors, right and enough
 abbrev pub EquationsFor : LinearCode → List ℕ → List ℕ → Type 0
@@ -58,7 +55,7 @@ ListsEquations code_sheet disks (Refuses refusal) = Unit
 
 -- Which list it is: the equations that elimination over the survivors' rows gives. So every call speaks of the same list
 abbrev pub survivor_equations : LinearCode → List ℕ → List ℕ
-survivor_equations code disks = equations_of (unit_patterns code.data_symbols) (survives code.layout disks) (matrix code)
+survivor_equations code disks = equations_of (units code.data_symbols) (survives code.layout disks) (matrix code)
 
 abbrev pub ListsAlways : List ℕ → List ℕ → Answer (List ℕ) → Type 0
 ListsAlways code_sheet disks (Gives equations) = equations ≡ survivor_equations (reading code_sheet).code disks
@@ -79,10 +76,14 @@ pub data YesOrNo : Type 0 where
   No : ℕ → YesOrNo
 
 -- What a `Tested` stands for
-abbrev pub as_tested : Tested → Answer YesOrNo
-as_tested Sound = Gives Yes
-as_tested (Unsound column) = Gives (No column)
-as_tested (Refused refusal) = Refuses (numbered refusal)
+abbrev pub as_said : Tested → YesOrNo
+as_said Sound = Yes
+as_said (Unsound column) = No column
+
+-- What the test's result stands for
+abbrev pub as_tested : Result Tested Refusal → Answer YesOrNo
+as_tested (Ok tested) = Gives (as_said tested)
+as_tested (Err refusal) = Refuses (numbered refusal)
 
 -- Some valid stripe agrees on every surviving byte
 abbrev pub CanBeSound : LinearCode → List ℕ → ℕ → List ℕ → Type 0

@@ -1,27 +1,44 @@
 -- `soundness::equations_for` meets its contract: the equations among the rows of the symbols that survive. Assumes nothing.
+use mathlib.Core.Path.{ap, ◌∙◌}
+use mathlib.Core.List.{List}
+use Prim.Native.Nat.{ℕ}
 use native.Mathlib.Omega.{arith}
 use borrow.Author.Tests.{ltb-true}
+use lib.ListN.{length}
+use Rattle.bits.specs.BitSets.{has}
 use Rattle.bits.specs.Numerals.{numeral}
+use Rattle.bits.proofs.NumeralLaws.{length_numerals}
 use Rattle.codes.specs.Codes.{linear}
 use Rattle.codes.proofs.LimitLaws.{layout_within}
-use Rattle.soundness.proofs.CallLaws.{are_equations, equations_for_code, few_equations}
+use Rattle.gf2.specs.InnerElimination.{units}
+use Rattle.plans.proofs.JudgementLaws.{length_matrix}
+use Rattle.spans.specs.InnerSpans.{equations_of}
+use Rattle.soundness.proofs.CallLaws.{are_equations, equations_for_code}
 use Rattle.soundness.proofs.equations_for.Goals as goal
 
 pub lost_symbols-gone-requires : goal.lost_symbols-gone-requires
 lost_symbols-gone-requires c =
-    (layout_within (linear c.args.code) c.requires.0, λ i h. ltb-true _ _ (c.requires.1.each_allowed i h))
+    (layout_within (linear c.args.code.now) c.args.code.now.within, λ i h. ltb-true _ _ (c.requires.each_allowed i h))
 
 pub loss_of-loss-requires : goal.loss_of-loss-requires
 loss_of-loss-requires c = (
-  layout_within (linear c.args.code) c.requires.0,
-  ltb-true _ _ (c.requires.1.each_allowed 0 c.requires.1.count_from),
+  layout_within (linear c.args.code.now) c.args.code.now.within,
+  ltb-true _ _ (c.requires.each_allowed 0 c.requires.count_from),
   c.lost_symbols-gone.ensures.lost,
-  λ i h. omega arith,
+  λ i h. absurd (omega arith),
 )
+
+pub equations_among-requires-clause-rows_fit : goal.equations_among-requires-clause-rows_fit
+equations_among-requires-clause-rows_fit c =
+    let within = c.args.code.now.within in
+    omega (arith, length_numerals c.matrix.result.now, ap (λ (l : List ℕ). length l) c.matrix.ensures, length_matrix (linear c.args.code.now) within, within.symbols_to)
 
 pub returns : goal.returns
 returns c =
-    let code = linear c.args.code in
+    let code = linear c.args.code.now in
+    let within = c.args.code.now.within in
+    let disks = c.args.disks.now in
     let loss = c.loss_of-loss in
     let known = numeral loss.result.survivors in
-    let made = c.equations_among.ensures in record { few = few_equations code c.requires.0 c.args.disks.now known loss.ensures.symbols loss.ensures.survivors made.count made.sets; list = are_equations code c.requires.0 c.args.disks.now known loss.ensures.symbols loss.ensures.survivors made.count made.sets; equations = equations_for_code code c.requires.0 c.args.disks.now known loss.ensures.symbols loss.ensures.survivors made.count made.sets }
+    let made = c.equations_among.ensures ∙ ap (equations_of (units code.data_symbols) (has known)) c.matrix.ensures in
+    record { list = are_equations code within disks known loss.ensures.survivors made; equations = equations_for_code code within disks known loss.ensures.survivors made }

@@ -1,32 +1,41 @@
--- `soundness::list_equations` meets its contract: by its verdict, the refusal, or the equations. Assumes nothing.
+-- `soundness::list_equations` meets its contract: the refusal, or the equations. Assumes nothing.
 use mathlib.Core.Path.{sym, ap, ◌∙◌}
-use Rattle.refusals.specs.Orders.{outcome}
+use Rattle.std.specs.Prelude.{Ok, Err}
+use Rattle.std.proofs.lemmas.Result.{err_from_is_err_and}
+use Rattle.plans.specs.Check.{asked_faults}
+use Rattle.refusals.specs.Orders.{Fine, outcome}
+use Rattle.refusals.proofs.OrderLaws.{refusal_stands}
 use Rattle.code_sheets.specs.CodeReading.{as_read}
 use Rattle.soundness.proofs.CallLaws.{asked_fine, list_verdict, list_of_sheet, same_list}
 use Rattle.soundness.proofs.list_equations.Goals as goal
 
-pub asked_test-verdict-requires : goal.asked_test-verdict-requires
-asked_test-verdict-requires c = c.read_code-reading.ensures.limits
-
-pub equations_for-list-requires : goal.equations_for-list-requires
-equations_for-list-requires c =
-    let read = c.read_code-reading in
-    let disks = c.args.disks.now in
-    let good =
-    asked_fine (as_read read.result).code.layout disks (as_read read.result).verdict (sym c.asked_test-verdict.ensures ∙ ap outcome c.in_default.is) in
-    (read.ensures.limits good.0, good.1)
-
-pub returns-in_default : goal.returns-in_default
-returns-in_default c =
+pub returns-in_err-code : goal.returns-in_err-code
+returns-in_err-code c =
     let args = c.args in
-    let read = c.read_code-reading in
-    let tested = list_verdict args.sheet.now args.disks.now (as_read read.result) read.ensures.answer c.asked_test-verdict.ensures in
-    let fine = ap outcome c.in_default.is in
-    let made = c.equations_for-list.ensures in record { refusal = sym fine ∙ tested; equations = list_of_sheet args.sheet.now args.disks.now (as_read read.result) read.ensures.answer made.equations; list = same_list args.sheet.now args.disks.now (as_read read.result) read.ensures.answer made.list }
+    let p = err_from_is_err_and c.from_residual.result c.from_residual.ensures.1 in
+    let read = as_read (Err c.in_err-code.field-0.0) in
+    let refused = list_verdict args.sheet.now args.disks.now read c.in_err-code.ensures.answer (sym (refusal_stands _ (asked_faults read.code.layout args.disks.now))) in
+    rw (p.1, p.2) (record { refusal = refused; equations = tt; list = tt })
+
+pub returns-in_err-disks_test : goal.returns-in_err-disks_test
+returns-in_err-disks_test c =
+    let args = c.args in
+    let p = err_from_is_err_and c.from_residual-in_err-disks_test.result c.from_residual-in_err-disks_test.ensures.1 in
+    let refused =
+    list_verdict args.sheet.now args.disks.now (as_read (Ok c.in_ok-code.code)) c.in_ok-code.ensures.answer (sym (ap outcome c.in_err-disks_test.was) ∙ c.disks_test.ensures) in
+    rw (p.1, p.2) (record { refusal = refused; equations = tt; list = tt })
+
+pub equations_for-requires : goal.equations_for-requires
+equations_for-requires c =
+    (asked_fine c.in_ok-code.code.layout c.args.disks.now Fine (sym c.disks_test.ensures ∙ ap outcome c.in_ok-disks_test.was)).1
 
 pub returns : goal.returns
 returns c =
     let args = c.args in
-    let read = c.read_code-reading in
-    let tested = list_verdict args.sheet.now args.disks.now (as_read read.result) read.ensures.answer c.asked_test-verdict.ensures in
-    record { refusal = sym (ap outcome c.in-Refused.is) ∙ tested; equations = tt; list = tt }
+    let read = as_read (Ok c.in_ok-code.code) in
+    let answer = c.in_ok-code.ensures.answer in
+    record {
+      refusal = list_verdict args.sheet.now args.disks.now read answer (sym (ap outcome c.in_ok-disks_test.was) ∙ c.disks_test.ensures);
+      equations = list_of_sheet args.sheet.now args.disks.now read answer c.equations_for.ensures.equations;
+      list = same_list args.sheet.now args.disks.now read answer c.equations_for.ensures.list;
+    }

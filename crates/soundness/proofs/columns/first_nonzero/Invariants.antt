@@ -5,7 +5,4 @@ use Rattle.soundness.proofs.ByteLaws.{ZeroTo}
 use Rattle.soundness.proofs.columns.first_nonzero.Given as goal
 
 abbrev pub invariant-loop-i : goal.invariant-loop-i
-invariant-loop-i l = (l.i ≤ length l.bytes) × ZeroTo l.bytes l.i
-
-abbrev pub decreases-loop-i : goal.decreases-loop-i
-decreases-loop-i l = length l.bytes - l.i
+invariant-loop-i l = ZeroTo l.bytes l.i

@@ -4,7 +4,8 @@ use mathlib.Core.List.{List}
 use Prim.Native.Nat.{ℕ, ◌+◌, ◌*◌, ◌≤◌, ◌<◌}
 use native.Mathlib.Nat.{sub-zero}
 use native.Mathlib.Omega.{arith}
-use lib.ListN.{length, get_or, take}
+use lib.ListN.{length, get_or}
+use lib.Seq.{take_all}
 use Rattle.bits.specs.Numerals.{numerals}
 use Rattle.bits.proofs.NumeralLaws.{array_length, length_numerals, get_or_numerals}
 use Rattle.gf2.specs.Stripes.{encoded_symbol}
@@ -13,10 +14,10 @@ use Rattle.soundness.specs.InnerColumns.{LowestFailing}
 use Rattle.soundness.proofs.ColumnLaws.{lowest_of_none, lowest_with_one_more, lowest_is_first}
 use Rattle.soundness.proofs.columns.lowest_by_sums.Goals as goal
 
-pub loop-e-init : goal.loop-e-init
-loop-e-init c =
+pub loop-equation-init : goal.loop-equation-init
+loop-equation-init c =
     let args = c.args in
-    (omega arith, omega arith, lowest_of_none args.size args.symbols args.stripe.now (omega arith) (numerals args.equations) refl)
+    (omega arith, lowest_of_none args.size args.symbols args.stripe.now (omega arith) (numerals args.equations.now) refl)
 
 pub encode_symbol-requires : goal.encode_symbol-requires
 encode_symbol-requires c = (omega arith, omega arith, omega arith)
@@ -24,38 +25,39 @@ encode_symbol-requires c = (omega arith, omega arith, omega arith)
 pub returns-then-lowest-eq0 : goal.returns-then-lowest-eq0
 returns-then-lowest-eq0 c =
     let args = c.args in
-    let loop = c.loop-e in
-    let equations = numerals args.equations in
+    let loop = c.loop-equation in
+    let equations = numerals args.equations.now in
     let stripe = args.stripe.now in
     let whole : length stripe ≡ args.symbols * args.size = omega arith in
-    let within : loop.e < length equations = omega (arith, length_numerals args.equations, array_length args.equations _ c.well_formed.0) in
+    let within : loop.equation-index < length equations = omega (arith, length_numerals args.equations.now) in
     let made =
     c.encode_symbol.ensures
-    ∙ ap (λ (row : ℕ). encoded_symbol args.size stripe row args.symbols) (get_or_numerals args.equations loop.e) in
-    lowest_is_first args.size args.symbols stripe equations (loop.e + 1) args.count (omega arith)
-    (omega (arith, length_numerals args.equations, array_length args.equations _ c.well_formed.0)) c.if-lowest-eq0.true
-    (lowest_with_one_more args.size args.symbols stripe whole equations loop.e within loop.invariant.2 made (simp sub-zero at c.first_nonzero-lowest.ensures))
+    ∙ ap (λ (row : ℕ). encoded_symbol args.size stripe row args.symbols) (get_or_numerals args.equations.now loop.equation-index) in
+    subst (λ (l : List ℕ). LowestFailing args.size args.symbols stripe l c.first_nonzero-lowest.result) (take_all (length equations) equations (omega arith))
+    (lowest_is_first args.size args.symbols stripe equations (loop.equation-index + 1) (length equations) (omega arith)
+    (omega (arith, length_numerals args.equations.now)) c.if-lowest-eq0.true
+    (lowest_with_one_more args.size args.symbols stripe whole equations loop.equation-index within loop.invariant.1 made (simp sub-zero at c.first_nonzero-lowest.ensures)))
 
-pub loop-e-preserved : goal.loop-e-preserved
-loop-e-preserved c =
+pub loop-equation-preserved : goal.loop-equation-preserved
+loop-equation-preserved c =
     let args = c.args in
-    let loop = c.loop-e in
-    let equations = numerals args.equations in
+    let loop = c.loop-equation in
+    let equations = numerals args.equations.now in
     let stripe = args.stripe.now in
     let whole : length stripe ≡ args.symbols * args.size = omega arith in
-    let within : loop.e < length equations = omega (arith, length_numerals args.equations, array_length args.equations _ c.well_formed.0) in
+    let within : loop.equation-index < length equations = omega (arith, length_numerals args.equations.now) in
     let made =
     c.encode_symbol.ensures
-    ∙ ap (λ (row : ℕ). encoded_symbol args.size stripe row args.symbols) (get_or_numerals args.equations loop.e) in
+    ∙ ap (λ (row : ℕ). encoded_symbol args.size stripe row args.symbols) (get_or_numerals args.equations.now loop.equation-index) in
     let few : args.symbols * args.size ≤ length stripe = omega (arith, whole) in (
-      omega arith,
-      ap (λ (l : List ℕ). length l) made ∙ length_encoded_symbol args.size stripe (get_or equations loop.e 0) args.symbols few,
-      lowest_with_one_more args.size args.symbols stripe whole equations loop.e within loop.invariant.2 made (simp sub-zero at c.first_nonzero-lowest.ensures),
+      ap (λ (l : List ℕ). length l) made ∙ length_encoded_symbol args.size stripe (get_or equations loop.equation-index 0) args.symbols few,
+      lowest_with_one_more args.size args.symbols stripe whole equations loop.equation-index within loop.invariant.1 made (simp sub-zero at c.first_nonzero-lowest.ensures),
     )
 
 pub returns : goal.returns
 returns c =
     let args = c.args in
-    let loop = c.loop-e in
-    let all : loop.e ≡ args.count = omega arith in
-    subst (λ (n : ℕ). LowestFailing args.size args.symbols args.stripe.now (take n (numerals args.equations)) loop.lowest) all loop.invariant.2
+    let loop = c.loop-equation in
+    let equations = numerals args.equations.now in
+    subst (λ (l : List ℕ). LowestFailing args.size args.symbols args.stripe.now l loop.lowest)
+    (take_all loop.equation-index equations (omega (arith, length_numerals args.equations.now))) loop.invariant.1

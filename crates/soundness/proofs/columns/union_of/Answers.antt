@@ -3,11 +3,11 @@ use native.Mathlib.Omega.{arith}
 use Rattle.soundness.proofs.ByteLaws.{union_more}
 use Rattle.soundness.proofs.columns.union_of.Goals as goal
 
-pub loop-i-init : goal.loop-i-init
-loop-i-init c = (omega arith, λ none j h. absurd (omega arith))
+pub loop-byte-init : goal.loop-byte-init
+loop-byte-init c = λ none j h. absurd (omega arith)
 
-pub loop-i-preserved : goal.loop-i-preserved
-loop-i-preserved c = (omega arith, λ none. union_more c.args.bytes.now c.loop-i.i c.loop-i.invariant.1 none)
+pub loop-byte-preserved : goal.loop-byte-preserved
+loop-byte-preserved c = λ none. union_more c.args.bytes.now c.loop-byte.byte-index c.loop-byte.invariant none
 
 pub returns : goal.returns
-returns c = λ none i h. c.loop-i.invariant.1 none i (omega arith)
+returns c = λ none i h. c.loop-byte.invariant none i (omega arith)

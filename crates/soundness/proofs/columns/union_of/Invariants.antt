@@ -5,8 +5,5 @@ use lib.ListN.{length}
 use Rattle.soundness.proofs.ByteLaws.{ZeroTo}
 use Rattle.soundness.proofs.columns.union_of.Given as goal
 
-abbrev pub invariant-loop-i : goal.invariant-loop-i
-invariant-loop-i l = (l.i ≤ length l.bytes) × (l.all ≡ 0 → ZeroTo l.bytes l.i)
-
-abbrev pub decreases-loop-i : goal.decreases-loop-i
-decreases-loop-i l = length l.bytes - l.i
+abbrev pub invariant-loop-byte : goal.invariant-loop-byte
+invariant-loop-byte l = l.all ≡ 0 → ZeroTo l.bytes l.byte-index
