@@ -14,7 +14,7 @@ use Rattle.planning.proofs.CallLaws.{workable_if_fine, fine_if_workable, steps_t
 use Rattle.prices.specs.declared.DiskState.{DiskState}
 use Rattle.refusals.specs.Orders.{Outcome, Fine, Refused, Answer, Gives, Refuses, and_then}
 use Rattle.refusals.specs.Refusals.{Numbered}
-use Rattle.refusals.proofs.OrderLaws.{refused_is_not_fine}
+use Rattle.refusals.proofs.OrderLaws.{refusal_stands, refused_is_not_fine}
 use Rattle.priced_planner.specs.PricedPlanner.{priced_faults, priced_verdict, asked_with_away, PricedFound, APlan, APatterns, unpriced, BySwaps, PromisedPriced}
 use Rattle.priced_planner.specs.InnerPriced.{WorkedPriced}
 use Rattle.priced_planner.proofs.AvoidLaws.{some_with_away, plan_without, without_avoids}
@@ -128,3 +128,11 @@ module _ (code_sheet disks list : List ℕ) (states : List DiskState) (before : 
       priced_of code_sheet disks list states before (ap (λ (r : CodeRead). r.verdict) (sym as_read) ∙ may.0)
       (subst (λ (r : CodeRead). Workable r.code (listed_on_set disks list) (length before)) as_read may.1) after (sym tested ∙ fine) answer
       (subst (λ (r : CodeRead). WorkedPriced r.code (asked_with_away r.code (listed_on_set disks list) states) states before after answer) as_read worked)
+
+-- A code sheet that is refused: the refusal is the answer
+pub promised_if_unread : (code_sheet disks list : List ℕ) (states : List DiskState) (before : List ℕ) (refusal : Numbered) → (reading code_sheet).verdict ≡ Refused refusal
+    → PromisedPriced code_sheet (listed_on_set disks list) states before before (Refuses refusal)
+promised_if_unread code_sheet disks list states before refusal e =
+    let faults = priced_faults (reading code_sheet).code.layout (listed_on_set disks list) states (length before) in
+    promised_if_refused code_sheet disks list states before (reading code_sheet) refl (λ fine. absurd (refused_is_not_fine (sym e ∙ fine)))
+    (sym (ap (λ (v : Outcome). and_then v faults) e ∙ refusal_stands refusal faults)) refusal refl

@@ -16,23 +16,14 @@ use Rattle.planning.specs.InnerWork.{Workable, RightSets, RightSteps, sheet_of}
 use Rattle.planning.proofs.ResultLaws.{sets_steps_right, fits_if_right, written_if_right}
 use Rattle.prices.specs.declared.DiskState.{DiskState}
 use Rattle.sheets.specs.Buffers.{at_front}
-use Rattle.solve.specs.declared.set_lists.SetList.{SetList}
 use Rattle.soundness.specs.Survivors.{EquationsFor, survivor_equations}
-use Rattle.swaps.specs.InnerSwaps.{terms_of}
-use Rattle.swaps.specs.Swaps.{Settled}
-use Rattle.priced_planner.specs.PricedPlanner.{swap_terms, BySwaps, with_patterns, as_priced}
-use Rattle.priced_planner.specs.InnerPriced.{EquationsHeld, StartHeld, PricedSheet, WorkedPriced}
-use Rattle.priced_planner.specs.declared.Priced.{Priced}
-use Rattle.priced_planner.specs.declared.PricedAnswer.{PricedAnswer}
+use Rattle.swaps.specs.Swaps.{terms_of, Settled}
+use Rattle.priced_planner.specs.PricedPlanner.{swap_terms, BySwaps}
+use Rattle.priced_planner.specs.InnerPriced.{StartHeld, PricedSheet}
 use Rattle.priced_planner.proofs.SwapPlanLaws as swaps_plan
 
--- What holds of an answer holds of what carries it
-pub as_answered : (code : LinearCode) (asked : Asked) (states : List DiskState) (before after : List ℕ) (answer : PricedAnswer) (priced : Priced) → answer.priced ≡ priced
-    → WorkedPriced code asked states before after (with_patterns (numerals answer.patterns) priced) → WorkedPriced code asked states before after (as_priced answer)
-as_answered code asked states before after answer priced same =
-    subst (λ (p : Priced). WorkedPriced code asked states before after (with_patterns (numerals answer.patterns) p)) (sym same)
-
-module _ (code : LinearCode) (asked : Asked) {room : ℕ} (workable : Workable code asked room) (equations : SetList) (held : EquationsHeld code asked.disks equations)
+module _ (code : LinearCode) (asked : Asked) {room : ℕ} (workable : Workable code asked room) (equations : List ℕ) (are : equations ≡ survivor_equations code asked.disks)
+    (right : EquationsFor code asked.disks equations)
     (wanted : BitSet) (start : List BitSet) (begins : StartHeld code asked wanted start) where
   -- The wanted symbols are the array's
   pub wanted_below : PlacesBelow (symbols code) (has (numeral wanted))
@@ -48,7 +39,7 @@ module _ (code : LinearCode) (asked : Asked) {room : ℕ} (workable : Workable c
   sets_fit {sets} right = fits_if_right code asked workable (numeral wanted) sets right.below (steps_right right)
 
   equations_right : EquationsFor code asked.disks (survivor_equations code asked.disks)
-  equations_right = subst (EquationsFor code asked.disks) held.are held.right
+  equations_right = subst (EquationsFor code asked.disks) are right
 
   module _ (states : List DiskState) {final : List ℕ} {sum : Float} {swaps : ℕ} {settled : Bool}
       (settling : Settled (terms_of code.layout states equations wanted) (numerals start) final sum swaps settled) where
@@ -57,10 +48,10 @@ module _ (code : LinearCode) (asked : Asked) {room : ℕ} (workable : Workable c
     settled_so =
         subst
         (λ (list : List ℕ). Settled (record { layout = code.layout; states = states; equations = list; wanted = asked_symbols code asked }) (numerals start) final sum swaps settled)
-        held.are
+        are
         (subst
         (λ (set : ℕ → Bool).
-        Settled (record { layout = code.layout; states = states; equations = take equations.count (numerals equations.sets); wanted = set }) (numerals start) final sum swaps settled)
+        Settled (record { layout = code.layout; states = states; equations = equations; wanted = set }) (numerals start) final sum swaps settled)
         (fun_ext begins.wanted_are) settling)
 
     pub sets_right : RightSets code asked final

@@ -121,22 +121,19 @@ symbols_none test bound number behind =
     let left : bound - number ≡ 0 = omega arith in
     rw left
 
--- A number stored behind the entries so far
-pub entry_stored : (test : ℕ → Bool) (entries : List ℕ) (count bound number : ℕ) → count < length entries → number < bound → test number ≡ true
-    → take count entries ++ symbols_in test number (bound - number) ≡ symbols_in test 0 bound
-    → take (count + 1) (set entries count number) ++ symbols_in test (number + 1) (bound - (number + 1)) ≡ symbols_in test 0 bound
-entry_stored test entries count bound number room below passes so_far =
+-- A number appended to the entries so far
+pub entry_pushed : (test : ℕ → Bool) (entries : List ℕ) (bound number : ℕ) → number < bound → test number ≡ true
+    → entries ++ symbols_in test number (bound - number) ≡ symbols_in test 0 bound
+    → (entries ++ number ∷ []) ++ symbols_in test (number + 1) (bound - (number + 1)) ≡ symbols_in test 0 bound
+entry_pushed test entries bound number below passes so_far =
     let later = symbols_in test (number + 1) (bound - (number + 1)) in
-    ap (λ (l : List ℕ). l ++ later) (ap (λ (n : ℕ). take n (set entries count number)) (add-one count) ∙ take-suc-set entries count number room)
-    ∙ append_assoc (take count entries) (number ∷ []) later
-    ∙ ap (λ (l : List ℕ). take count entries ++ l) (sym (symbols_with test bound number below passes))
-    ∙ so_far
+    append_assoc entries (number ∷ []) later ∙ ap (λ (l : List ℕ). entries ++ l) (sym (symbols_with test bound number below passes)) ∙ so_far
 
 -- Behind the last number the entries are all
-pub all_entries : (test : ℕ → Bool) (entries : List ℕ) (count bound number : ℕ) → bound ≤ number
-    → take count entries ++ symbols_in test number (bound - number) ≡ symbols_in test 0 bound → take count entries ≡ symbols_in test 0 bound
-all_entries test entries count bound number behind so_far =
-    sym (append-nil (take count entries)) ∙ ap (λ (l : List ℕ). take count entries ++ l) (sym (symbols_none test bound number behind)) ∙ so_far
+pub all_entries : (test : ℕ → Bool) (entries : List ℕ) (bound number : ℕ) → bound ≤ number
+    → entries ++ symbols_in test number (bound - number) ≡ symbols_in test 0 bound → entries ≡ symbols_in test 0 bound
+all_entries test entries bound number behind so_far =
+    sym (append-nil entries) ∙ ap (λ (l : List ℕ). entries ++ l) (sym (symbols_none test bound number behind)) ∙ so_far
 
 -- ------------------------------------------------------------------
 -- Lost disks

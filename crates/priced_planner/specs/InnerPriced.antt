@@ -9,18 +9,11 @@ use Rattle.planning.specs.InnerPlan.{steps_found}
 use Rattle.planning.specs.InnerWork.{RightSets, SheetWritten, PatternsTell}
 use Rattle.prices.specs.declared.DiskState.{DiskState}
 use Rattle.refusals.specs.Orders.{Answer, Gives, Refuses}
-use Rattle.solve.specs.declared.set_lists.SetList.{SetList}
 use Rattle.soundness.specs.Survivors.{EquationsFor, survivor_equations}
 use Rattle.priced_planner.specs.PricedPlanner.{PricedFound, APlan, APatterns, steps_by_sets, BySwaps}
 
 -- ------------------------------------------------------------------
 -- What the work is handed
-
--- The equations of §8's list for these lost disks
-pub record EquationsHeld (code : LinearCode) (disks : List ℕ) (equations : SetList) : Type 0 where
-  pub few : equations.count ≤ set_width
-  pub are : take equations.count (numerals equations.sets) ≡ survivor_equations code disks
-  pub right : EquationsFor code disks (take equations.count (numerals equations.sets))
 
 -- The wanted symbols, and the sets of the plan that ordinary planning gives
 pub record StartHeld (code : LinearCode) (asked : Asked) (wanted : BitSet) (start : List BitSet) : Type 0 where

@@ -6,7 +6,7 @@
 -- no other, is an edition 3 sheet that lists the away disks among the lost and the wanted symbols one by one, is accepted when the checker is asked about
 -- those lost disks, and is never dearer than the start; its sum is answered too. §9's patterns, for those lost disks, are given exactly when no plan avoids
 -- the away disks."
-use Rattle.std.specs.Prelude.{◌≡◌, Bool, true, false, ◌&&◌, ◌||◌, List, [], ◌∷◌, ◌++◌, ◌↔◌, ℕ, ltb, Float, length, get_or, take}
+use Rattle.std.specs.Prelude.{◌≡◌, Bool, true, false, ◌&&◌, ◌||◌, List, [], ◌∷◌, ◌++◌, ◌↔◌, ℕ, ltb, Float, length, get_or, take, Result, Ok, Err}
 use Rattle.std.specs.Float.Ieee.{lt}
 use Rattle.bits.specs.BitSets.{has}
 use Rattle.bits.specs.Lists.{symbols_in}
@@ -31,11 +31,11 @@ use Rattle.prices.specs.Prices.{state_of, is_away, first_bad_state, sum_of}
 use Rattle.prices.specs.declared.DiskState.{DiskState}
 use Rattle.refusals.specs.Orders.{Outcome, Fine, Answer, Gives, Refuses, Fault, ◌gets◌, and_then, outcome_of}
 use Rattle.refusals.specs.Refusals.{numbered, ◌at◌}
+use Rattle.refusals.specs.declared.Refusal.{Refusal}
 use Rattle.soundness.specs.Survivors.{survivor_equations}
 use Rattle.swaps.specs.Swaps.{Terms, read_by, Settled}
 use Rattle.priced_planner.specs.declared.Priced.{Priced}
 use Rattle.priced_planner.specs.declared.Priced.TheVariants as Answers
-use Rattle.priced_planner.specs.declared.PricedAnswer.{PricedAnswer}
 
 -- ------------------------------------------------------------------
 -- Refusals
@@ -82,15 +82,15 @@ pub data PricedFound : Type 0 where
   APlan : ℕ → ℕ → Float → Bool → PricedFound
   APatterns : List ℕ → PricedFound
 
--- What a `Priced` stands for, with the patterns beside it
-abbrev pub with_patterns : List ℕ → Priced → Answer PricedFound
-with_patterns patterns (Answers.Plan plan_length reads sum settled) = Gives (APlan plan_length reads sum settled)
-with_patterns patterns (Answers.Patterns count) = Gives (APatterns (take count patterns))
-with_patterns patterns (Answers.Refused refusal) = Refuses (numbered refusal)
+-- What a `Priced` stands for
+abbrev pub as_found : Priced → PricedFound
+as_found (Answers.Plan plan_length reads sum settled) = APlan plan_length reads sum settled
+as_found (Answers.Patterns lost) = APatterns (numerals lost.items)
 
--- What a `PricedAnswer` stands for
-abbrev pub as_priced : PricedAnswer → Answer PricedFound
-as_priced answer = with_patterns (numerals answer.patterns) answer.priced
+-- What the result stands for
+abbrev pub as_priced : Result Priced Refusal → Answer PricedFound
+as_priced (Ok priced) = Gives (as_found priced)
+as_priced (Err refusal) = Refuses (numbered refusal)
 
 -- The same without the sum, as planning answers
 abbrev pub unpriced : Answer PricedFound → Answer Found

@@ -1,22 +1,21 @@
 // A plan for lost disks where reads have prices: asked like planning for edition 3, and told the state of each disk.
 #![tactic(auto)]
 
-ghost use Rattle.std.specs.Prelude.{◌≡◌, length, take};
-ghost use Rattle.bits.specs.Numerals.{numerals};
+ghost use Rattle.std.specs.Prelude.{◌≡◌, length};
 ghost use Rattle.codes.specs.Codes.{linear};
 ghost use Rattle.plan_requests.specs.PlanRequests.{listed_on_set};
 ghost use Rattle.planning.specs.InnerWork.{Workable};
 ghost use Rattle.planning.specs.Planning.{BufferLeft};
 ghost use Rattle.refusals.specs.Orders.{Gives, outcome_of};
-ghost use Rattle.priced_planner.specs.PricedPlanner.{APatterns, as_priced, unpriced, asked_with_away, priced_verdict, WantsAsAsked, AsPlanning, PatternsExactly, PricedBySwaps};
+ghost use Rattle.priced_planner.specs.PricedPlanner.{as_found, as_priced, unpriced, asked_with_away, priced_verdict, WantsAsAsked, AsPlanning, PatternsExactly, PricedBySwaps};
 ghost use Rattle.priced_planner.specs.InnerPriced.{WorkedPriced};
 
-use bits::{BitSets, empty_sets};
 use code_sheets::read_code;
 use codes::Code;
 use losses::{loss_of, lost_symbols};
+use plan_requests::PlanRequest;
 use prices::DiskStates;
-use refusals::{Refusal, Verdict};
+use refusals::Refusal;
 use solve::SetList;
 
 pub mod requests; // requests.rt: what is tested before any work
@@ -27,9 +26,9 @@ use lost_lists::{entries_of, lost_disks};
 use requests::priced_test;
 use work::work_out_priced;
 
-// What is answered: a plan sheet's length and read count with the sum of its charges, settled or stopped; how many patterns tell what is gone where there is
-// no plan; or the first refusal.
-#[derive(Clone, Copy)]
+// What is answered: a plan sheet's length and read count with the sum of its charges, settled or stopped; or the patterns that tell what is gone where there
+// is no plan.
+#[derive(Drop)]
 pub enum Priced {
     Plan {
         length: usize,
@@ -37,68 +36,31 @@ pub enum Priced {
         sum: f64,
         settled: bool,
     },
-    Patterns {
-        count: usize,
-    },
-    Refused(Refusal),
-}
-
-// The answer, and the patterns beside it: as many as it says, then empty sets.
-#[derive(Clone, Copy)]
-pub struct PricedAnswer {
-    pub priced: Priced,
-    pub patterns: BitSets,
-}
-
-// The patterns that tell what is gone, as an answer.
-pub fn patterns_answer(lost: SetList) -> PricedAnswer
-    ensures { as_priced result ≡ Gives (APatterns (take lost.count (numerals lost.sets))) }
-{
-    let patterns = lost.sets;
-    PricedAnswer {
-        priced: Priced::Patterns { count: lost.count },
-        patterns,
-    }
-}
-
-// An answer without patterns.
-pub fn without_patterns(priced: Priced) -> PricedAnswer
-    ensures priced { result.priced ≡ priced }
-{
-    PricedAnswer {
-        priced,
-        patterns: empty_sets(),
-    }
+    Patterns(SetList),
 }
 
 // Works a plan out with the away disks lost too. What is wanted is listed one by one: without a list it is all symbols of the disks asked about, and no more.
 fn work_with_away(
-    code: Code,
+    code: &Code,
     disks: &[u8],
     wanted: &[u8],
-    states: DiskStates,
+    states: &DiskStates,
     buffer: &mut [u8],
-) -> PricedAnswer
-    requires { Workable (linear code) (listed_on_set disks.now wanted.now) (length buffer.old) }
-    ensures { WorkedPriced (linear code) (asked_with_away (linear code) (listed_on_set disks.now wanted.now) states) states buffer.old buffer.new (as_priced result) }
+) -> Priced
+    requires { Workable (linear code.now) (listed_on_set disks.now wanted.now) (length buffer.old) }
+    ensures { WorkedPriced (linear code.now) (asked_with_away (linear code.now) (listed_on_set disks.now wanted.now) states.now) states.now buffer.old buffer.new (Gives (as_found result)) }
 {
     let layout = code.layout;
-    let array_disks = layout.disks;
-    let lost = entries_of(lost_disks(disks, states, array_disks), array_disks);
+    let lost = entries_of(lost_disks(disks, states, layout.disks), layout.disks);
     let gone = lost_symbols(layout, disks);
     let loss = loss_of(layout, disks, gone, 3, wanted);
     let list = entries_of(loss.wanted, loss.symbols);
-    let lost_entries = lost.entries;
-    let lost_count = lost.count;
-    let list_entries = list.entries;
-    let list_count = list.count;
-    work_out_priced(
-        code,
-        &lost_entries[0..lost_count],
-        &list_entries[0..list_count],
-        states,
-        buffer,
-    )
+    let request = PlanRequest {
+        edition: 3,
+        disks: lost.as_slice(),
+        wanted: list.as_slice(),
+    };
+    work_out_priced(code, request, states, buffer)
 }
 
 // Plans the rebuild of the listed symbols of a set of disks, of all without entries, at the prices of the disks that are not away: an edition 3 plan sheet
@@ -107,21 +69,17 @@ pub fn plan_priced(
     sheet: &[u8],
     disks: &[u8],
     wanted: &[u8],
-    states: DiskStates,
+    states: &DiskStates,
     buffer: &mut [u8],
-) -> PricedAnswer
-    ensures refusal { outcome_of (as_priced result) ≡ priced_verdict sheet.now (listed_on_set disks.now wanted.now) states (length buffer.old) }
+) -> Result<Priced, Refusal>
+    ensures refusal { outcome_of (as_priced result) ≡ priced_verdict sheet.now (listed_on_set disks.now wanted.now) states.now (length buffer.old) }
     ensures buffer { BufferLeft buffer.old buffer.new (unpriced (as_priced result)) }
-    ensures wanted { WantsAsAsked sheet.now (listed_on_set disks.now wanted.now) states (length buffer.old) }
-    ensures as_planning { AsPlanning sheet.now (listed_on_set disks.now wanted.now) states buffer.old buffer.new (as_priced result) }
-    ensures exactly { PatternsExactly sheet.now (listed_on_set disks.now wanted.now) states (length buffer.old) (as_priced result) }
-    ensures by_swaps { PricedBySwaps sheet.now (listed_on_set disks.now wanted.now) states buffer.new (as_priced result) }
+    ensures wanted { WantsAsAsked sheet.now (listed_on_set disks.now wanted.now) states.now (length buffer.old) }
+    ensures as_planning { AsPlanning sheet.now (listed_on_set disks.now wanted.now) states.now buffer.old buffer.new (as_priced result) }
+    ensures exactly { PatternsExactly sheet.now (listed_on_set disks.now wanted.now) states.now (length buffer.old) (as_priced result) }
+    ensures by_swaps { PricedBySwaps sheet.now (listed_on_set disks.now wanted.now) states.now buffer.new (as_priced result) }
 {
-    let reading = read_code(sheet);
-    let code = reading.code;
-    let verdict = priced_test(reading, disks, wanted, states, buffer.len());
-    let Verdict::Refused(refusal) = verdict else {
-        return work_with_away(code, disks, wanted, states, buffer);
-    };
-    without_patterns(Priced::Refused(refusal))
+    let code = read_code(sheet)?;
+    priced_test(&code, disks, wanted, states, buffer.len())?;
+    Ok(work_with_away(&code, disks, wanted, states, buffer))
 }

@@ -1,40 +1,45 @@
--- `priced_planner::plan_priced` meets its contract: by its verdict, the refusal, or what the work answers and leaves. Assumes nothing.
-use mathlib.Core.Path.{sym, ap, subst}
-use Rattle.code_sheets.specs.CodeReading.{as_read}
-use Rattle.plan_requests.specs.PlanRequests.{listed_on_set}
-use Rattle.refusals.specs.Orders.{outcome}
-use Rattle.priced_planner.specs.PricedPlanner.{with_patterns, as_priced, PromisedPriced}
-use Rattle.priced_planner.proofs.CallLaws.{workable_if_tested, promised_if_refused, promised_if_fine}
+-- `priced_planner::plan_priced` meets its contract: the refusal, or what the work answers and leaves. Assumes nothing.
+use mathlib.Core.Path.{◌≡◌, sym, ap}
+use Rattle.std.specs.Prelude.{Ok}
+use Rattle.std.proofs.lemmas.Result.{err_from_is_err_and}
+use Rattle.code_sheets.specs.CodeReading.{CodeRead, as_read}
+use Rattle.refusals.specs.Orders.{Gives, outcome}
+use Rattle.priced_planner.specs.PricedPlanner.{as_found}
+use Rattle.priced_planner.proofs.CallLaws.{workable_if_tested, promised_if_unread, promised_if_refused, promised_if_fine}
 use Rattle.priced_planner.proofs.plan_priced.Goals as goal
 
-pub priced_test-verdict-requires : goal.priced_test-verdict-requires
-priced_test-verdict-requires c = c.read_code-reading.ensures.limits
+pub returns-in_err-code : goal.returns-in_err-code
+returns-in_err-code c =
+    let a = c.args in
+    let p = err_from_is_err_and c.from_residual.result c.from_residual.ensures.1 in
+    let promised = promised_if_unread a.sheet.now a.disks.now a.wanted.now a.states.now a.buffer.now _ (sym (ap (λ (read : CodeRead). read.verdict) c.in_err-code.ensures.answer)) in
+    rw (p.1, p.2)
+    (record { refusal = promised.refusal; buffer = promised.buffer; wanted = promised.wanted; as_planning = promised.as_planning; exactly = promised.exactly; by_swaps = promised.by_swaps })
+
+pub returns-in_err-priced_test : goal.returns-in_err-priced_test
+returns-in_err-priced_test c =
+    let a = c.args in
+    let code = c.in_ok-code.code in
+    let p = err_from_is_err_and c.from_residual-in_err-priced_test.result c.from_residual-in_err-priced_test.ensures.1 in
+    let promised =
+    promised_if_refused a.sheet.now a.disks.now a.wanted.now a.states.now a.buffer.now (as_read (Ok code)) c.in_ok-code.ensures.answer (λ fine. code.within)
+    c.priced_test.ensures _ (ap outcome c.in_err-priced_test.was) in
+    rw (p.1, p.2)
+    (record { refusal = promised.refusal; buffer = promised.buffer; wanted = promised.wanted; as_planning = promised.as_planning; exactly = promised.exactly; by_swaps = promised.by_swaps })
 
 pub work_with_away-requires : goal.work_with_away-requires
 work_with_away-requires c =
-    let read = c.read_code-reading in
     let a = c.args in
-    (workable_if_tested a.sheet.now a.disks.now a.wanted.now a.states a.buffer.now (as_read read.result) read.ensures.answer read.ensures.limits
-    c.priced_test-verdict.ensures (ap outcome c.in_default.is)).1
-
-pub returns-in_default : goal.returns-in_default
-returns-in_default c =
-    let read = c.read_code-reading in
-    let a = c.args in
-    let worked = c.work_with_away in
-    let promised =
-    promised_if_fine a.sheet.now a.disks.now a.wanted.now a.states a.buffer.now (as_read read.result) read.ensures.answer read.ensures.limits
-    c.priced_test-verdict.ensures (ap outcome c.in_default.is)
-    (as_priced worked.result) worked.ensures in
-    record { refusal = promised.refusal; buffer = promised.buffer; wanted = promised.wanted; as_planning = promised.as_planning; exactly = promised.exactly; by_swaps = promised.by_swaps }
+    let code = c.in_ok-code.code in
+    (workable_if_tested a.sheet.now a.disks.now a.wanted.now a.states.now a.buffer.now (as_read (Ok code)) c.in_ok-code.ensures.answer (λ fine. code.within)
+    c.priced_test.ensures (ap outcome c.in_ok-priced_test.was)).1
 
 pub returns : goal.returns
 returns c =
-    let read = c.read_code-reading in
     let a = c.args in
+    let code = c.in_ok-code.code in
+    let worked = c.work_with_away in
     let promised =
-    subst (PromisedPriced a.sheet.now (listed_on_set a.disks.now a.wanted.now) a.states a.buffer.now a.buffer.now)
-    (sym (ap (with_patterns _) (c.without_patterns.ensures.priced)))
-    (promised_if_refused a.sheet.now a.disks.now a.wanted.now a.states a.buffer.now (as_read read.result) read.ensures.answer read.ensures.limits
-    c.priced_test-verdict.ensures _ (ap outcome c.in-Refused.is)) in
+    promised_if_fine a.sheet.now a.disks.now a.wanted.now a.states.now a.buffer.now (as_read (Ok code)) c.in_ok-code.ensures.answer (λ fine. code.within)
+    c.priced_test.ensures (ap outcome c.in_ok-priced_test.was) (Gives (as_found worked.result)) worked.ensures in
     record { refusal = promised.refusal; buffer = promised.buffer; wanted = promised.wanted; as_planning = promised.as_planning; exactly = promised.exactly; by_swaps = promised.by_swaps }

@@ -2,15 +2,14 @@
 use mathlib.Core.Path.{◌≡◌}
 use mathlib.Core.List.{◌++◌}
 use Prim.Native.Nat.{◌-◌, ◌≤◌}
-use lib.ListN.{length, take}
+use lib.ListN.{length}
 use Rattle.bits.specs.BitSets.{has}
 use Rattle.bits.specs.Lists.{symbols_in}
-use Rattle.bits.specs.Numerals.{set_width, numeral}
+use Rattle.bits.specs.Numerals.{numeral}
 use Rattle.priced_planner.proofs.lost_lists.entries_of.Given as goal
 
 abbrev pub invariant-loop-number : goal.invariant-loop-number
-invariant-loop-number l = (l.number ≤ l.bound) × (l.count ≤ l.number) × (length l.entries ≡ set_width)
-    × (take l.count l.entries ++ symbols_in (has (numeral l.set)) l.number (l.bound - l.number) ≡ symbols_in (has (numeral l.set)) 0 l.bound)
-
-abbrev pub decreases-loop-number : goal.decreases-loop-number
-decreases-loop-number l = l.bound - l.number
+invariant-loop-number l = record {
+  few : length l.entries.items ≤ l.number;
+  so_far : l.entries.items ++ symbols_in (has (numeral l.set)) l.number (l.bound - l.number) ≡ symbols_in (has (numeral l.set)) 0 l.bound;
+}

@@ -7,7 +7,4 @@ use Rattle.priced_planner.specs.PricedPlanner.{is_lost}
 use Rattle.priced_planner.proofs.lost_lists.lost_disks.Given as goal
 
 abbrev pub invariant-loop-disk : goal.invariant-loop-disk
-invariant-loop-disk l = (l.disk ≤ l.disks) × ((d : ℕ) → has (numeral l.lost) d ≡ is_lost l.asked l.states l.disk d)
-
-abbrev pub decreases-loop-disk : goal.decreases-loop-disk
-decreases-loop-disk l = l.disks - l.disk
+invariant-loop-disk l = (d : ℕ) → has (numeral l.lost) d ≡ is_lost l.asked l.states l.disk d
