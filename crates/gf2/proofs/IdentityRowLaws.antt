@@ -174,11 +174,14 @@ remaining_after_units_from (suc count) first before even known others =
     rows : List ℕ
     rows = survivors (λ s. known (suc s)) (later ++ others)
 
--- Of the units, with zeros behind them, and rows that begin with the identity rows: the lost units are left for the other rows
+-- Zeros behind the patterns change none of those that are left
+pub remaining_padded : (patterns rows : List ℕ) → nonempty (remaining (padded patterns) rows) ≡ nonempty (remaining patterns rows)
+remaining_padded patterns rows = remaining_alike_but_zeros (padded patterns) patterns rows (nonempty_padded patterns)
+
+-- Of the units, and rows that begin with the identity rows: the lost units are left for the other rows
 pub remaining_after_identity_rows : (width : ℕ) (known : ℕ → Bool) (rows : List ℕ) → take width rows ≡ units width
-    → nonempty (remaining (padded (units width)) (survivors known rows)) ≡ nonempty (remaining (lost_units known width 0) (drop width (survivors known rows)))
+    → nonempty (remaining (units width) (survivors known rows)) ≡ nonempty (remaining (lost_units known width 0) (drop width (survivors known rows)))
 remaining_after_identity_rows width known rows begins =
-    remaining_alike_but_zeros (padded (units width)) (units width) (survivors known rows) (nonempty_padded (units width))
-    ∙ subst (λ (l : List ℕ). nonempty (remaining (units width) (survivors known l)) ≡ nonempty (remaining (lost_units known width 0) (drop width (survivors known l))))
+    subst (λ (l : List ℕ). nonempty (remaining (units width) (survivors known l)) ≡ nonempty (remaining (lost_units known width 0) (drop width (survivors known l))))
     (ap (λ (l : List ℕ). l ++ drop width rows) (sym begins) ∙ take-append-drop width rows)
     (remaining_after_units_from width 0 [] (λ bit h i. overlap_zero_left (2 ^ bit)) known (drop width rows))
