@@ -38,7 +38,12 @@ fn fewest_test(code: &Code, request: PlanRequest, room: usize) -> Verdict
 
 // Plans the rebuild of the listed symbols of a set of disks, of all without entries, with the fewest reads: an edition 3 plan sheet that has both lists as
 // they were given, or patterns. A refusal changes no byte.
-pub fn plan_fewest(sheet: &[u8], disks: &[u8], wanted: &[u8], buffer: &mut [u8]) -> Result<Planned, Refusal>
+pub fn plan_fewest(
+    sheet: &[u8],
+    disks: &[u8],
+    wanted: &[u8],
+    buffer: &mut [u8],
+) -> Result<Planned, Refusal>
     ensures refusal { outcome_of (as_planned result) ≡ fewest_verdict sheet.now (listed_on_set disks.now wanted.now) (length buffer.old) }
     ensures buffer { BufferLeft buffer.old buffer.new (as_planned result) }
     ensures planning { AsPlanning sheet.now (listed_on_set disks.now wanted.now) buffer.old buffer.new (as_planned result) }

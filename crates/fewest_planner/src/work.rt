@@ -15,7 +15,12 @@ use planning::{Planned, work_from};
 
 // Works out a plan; it reads as few symbols as any accepted plan does, where the branchings that the search may make are as many as the survivors have
 // subsets. Patterns where no plan exists.
-pub fn work_out_fewest(code: &Code, request: PlanRequest, branchings: usize, buffer: &mut [u8]) -> Planned
+pub fn work_out_fewest(
+    code: &Code,
+    request: PlanRequest,
+    branchings: usize,
+    buffer: &mut [u8],
+) -> Planned
     requires { Workable (linear code.now) (asked_by request) (length buffer.old) }
     ensures worked { Worked (linear code.now) (asked_by request.entry) buffer.old buffer.new (Gives (as_found result)) }
     ensures fewest { 2 ^ survivor_count code.now.layout request.entry.disks.now ≤ branchings
@@ -24,6 +29,12 @@ pub fn work_out_fewest(code: &Code, request: PlanRequest, branchings: usize, buf
     let layout = code.layout;
     let gone = lost_symbols(layout, request.disks);
     let loss = loss_of(layout, request.disks, gone, request.edition, request.wanted);
-    let chosen = fewest(code.matrix(), code.data_symbols, loss.survivors, loss.wanted, branchings);
+    let chosen = fewest(
+        code.matrix(),
+        code.data_symbols,
+        loss.survivors,
+        loss.wanted,
+        branchings,
+    );
     work_from(code, request, loss.wanted, chosen, buffer)
 }

@@ -46,7 +46,12 @@ pub fn plan(sheet: &[u8], disk: usize, buffer: &mut [u8]) -> Result<Planned, Ref
 }
 
 // Plans the rebuild of the listed symbols of a disk alone: an edition 2 plan sheet that wants exactly these, or patterns. A refusal changes no byte.
-pub fn plan_wanted(sheet: &[u8], disk: usize, wanted: &[u8], buffer: &mut [u8]) -> Result<Planned, Refusal>
+pub fn plan_wanted(
+    sheet: &[u8],
+    disk: usize,
+    wanted: &[u8],
+    buffer: &mut [u8],
+) -> Result<Planned, Refusal>
     ensures refusal { outcome_of (as_planned result) ≡ planning_verdict sheet.now (listed_on disk wanted.now) (length buffer.old) }
     ensures buffer { BufferLeft buffer.old buffer.new (as_planned result) }
     ensures demand3 { Demand3 sheet.now (listed_on disk wanted.now) buffer.new (as_planned result) }
@@ -66,7 +71,12 @@ pub fn plan_wanted(sheet: &[u8], disk: usize, wanted: &[u8], buffer: &mut [u8]) 
 
 // Plans the rebuild of the listed symbols of a set of disks, of all without entries: an edition 3 plan sheet that has both lists as they were given, or
 // patterns. A refusal changes no byte.
-pub fn plan_disks(sheet: &[u8], disks: &[u8], wanted: &[u8], buffer: &mut [u8]) -> Result<Planned, Refusal>
+pub fn plan_disks(
+    sheet: &[u8],
+    disks: &[u8],
+    wanted: &[u8],
+    buffer: &mut [u8],
+) -> Result<Planned, Refusal>
     ensures refusal { outcome_of (as_planned result) ≡ planning_verdict sheet.now (listed_on_set disks.now wanted.now) (length buffer.old) }
     ensures buffer { BufferLeft buffer.old buffer.new (as_planned result) }
     ensures demand3 { Demand3 sheet.now (listed_on_set disks.now wanted.now) buffer.new (as_planned result) }

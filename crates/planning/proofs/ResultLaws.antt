@@ -1,24 +1,21 @@
 -- What solving gave for a code is what the laws of planning speak of. Assumes nothing.
-use mathlib.Core.Path.{◌≡◌, refl, sym, ap, ap₂, ◌∙◌, subst, fun_ext}
+use mathlib.Core.Path.{◌≡◌, refl, sym, ap, ◌∙◌, subst, fun_ext}
 use mathlib.Core.Bool.{Bool, true, false, cond, true≢false}
 use mathlib.Core.List.{List, [], ◌∷◌, Memᴰ}
 use Prim.Native.Nat.{ℕ, ◌+◌, ◌^◌, ◌≤◌, ◌<◌}
 use native.Mathlib.Decide.{dec_lt}
 use native.Mathlib.Omega.{arith}
 use lib.Dec.{eqb}
-use lib.ListN.{length, get_or, take}
-use borrow.Author.Tests.{ltb-true, eqb-true, eqb-false}
+use lib.ListN.{length, get_or}
+use borrow.Author.Tests.{ltb-true, eqb-true}
 use Rattle.bits.specs.BitSets.{has}
-use Rattle.bits.specs.Lists.{symbols_in}
 use Rattle.bits.specs.Numerals.{set_width, padded}
 use Rattle.bits.proofs.ListLaws.{get_or_tabulate_behind}
 use Rattle.bits.proofs.SetLaws.{has_empty}
-use Rattle.bits.proofs.PaddedLaws.{get_or_padded, take_padded}
+use Rattle.bits.proofs.PaddedLaws.{get_or_padded}
 use Rattle.codes.specs.Codes.{LinearCode, symbols, matrix}
 use Rattle.codes.proofs.LayoutLaws.{height_of_at_most}
 use Rattle.codes.proofs.LimitLaws.{layout_within}
-use Rattle.gf2.specs.InnerElimination.{remaining, pivots}
-use Rattle.gf2.specs.InnerSubsetPlans.{survivors}
 use Rattle.gf2.specs.Plans.{Within}
 use Rattle.gf2.specs.Selection.{select}
 use Rattle.gf2.specs.declared.Step.{Step}
@@ -29,14 +26,13 @@ use Rattle.plans.specs.Judgement.{survives, lost_count}
 use Rattle.plans.proofs.JudgementLaws.{lost_below, lost_at_most}
 use Rattle.refusals.specs.Orders.{Answer, Gives, Refuses}
 use Rattle.sheets.specs.Buffers.{at_front}
-use Rattle.spans.specs.InnerSpans.{lost_patterns}
-use Rattle.solve.specs.InnerSolving.{odd_pattern, wanted_subsets}
+use Rattle.solve.specs.InnerSolving.{wanted_subsets}
 use Rattle.solve.proofs.RowLaws.{get_or_subsets, subsets_below}
 use Rattle.plan_requests.specs.PlanRequests.{Asked, asked_symbols, least_buffer}
 use Rattle.planning.specs.Planning.{Found, APlan, APatterns}
 use Rattle.planning.specs.InnerWork.{Workable, RightSets, RightSteps, SheetWritten, sheet_of, SubsetsFound, PatternsLost, Chosen, PatternsFrom, WorkedFrom, Worked}
 use Rattle.planning.proofs.StripLaws.{lost_of_one}
-use Rattle.planning.proofs.WorkLaws.{targets, known_rows, patterns_left_by, pivots_from, pattern_found_by, patterns_gone_by, subset_from, steps_from, asked_is_lost, target_wanted, shown_rules_plans_out, right_if_sums, known_counted, subset_alive, subset_sums, steps_right_from, patterns_from}
+use Rattle.planning.proofs.WorkLaws.{targets, known_rows, pivots_from, pattern_found_by, subset_from, steps_from, asked_is_lost, target_wanted, shown_rules_plans_out, right_if_sums, known_counted, subset_alive, subset_sums, steps_right_from, patterns_from}
 
 -- The least buffer has room for a head and 1,024 steps
 head_room : (edition : ℕ) (disks list : List ℕ) → length disks ≤ 64 → length list ≤ 64 → (edition ≡ 2 → length list ≤ 32)
@@ -150,91 +146,91 @@ module _ (code : LinearCode) (asked : Asked) {room : ℕ} (workable : Workable c
         )
 
     module _ {solved subsets : List ℕ} (given : SubsetsFound code (has known) (has wanted) solved) (subsets_are : subsets ≡ padded solved) where
-        told_subsets : SubsetsFound code (has known) (asked_symbols code asked) solved
-        told_subsets = subst (λ (set : ℕ → Bool). SubsetsFound code (has known) set solved) wanted_are given
+      told_subsets : SubsetsFound code (has known) (asked_symbols code asked) solved
+      told_subsets = subst (λ (set : ℕ → Bool). SubsetsFound code (has known) set solved) wanted_are given
 
-        -- No pattern is odd on a wanted row
-        none_found : pattern_found_by code asked (has known) ≡ 0
-        none_found = told_subsets.none_odd
+      -- No pattern is odd on a wanted row
+      none_found : pattern_found_by code asked (has known) ≡ 0
+      none_found = told_subsets.none_odd
 
-        -- The subsets as the laws speak of them
-        abbrev as_solved : List ℕ
-        as_solved = wanted_subsets (pivots_from code (has known)) (known_rows code (has known)) (matrix code) (symbols code) (asked_symbols code asked)
+      -- The subsets as the laws speak of them
+      abbrev as_solved : List ℕ
+      as_solved = wanted_subsets (pivots_from code (has known)) (known_rows code (has known)) (matrix code) (symbols code) (asked_symbols code asked)
 
-        are_solved : (t : ℕ) → get_or subsets t 0 ≡ get_or as_solved t 0
-        are_solved t = ap (λ (l : List ℕ). get_or l t 0) (subsets_are ∙ ap padded told_subsets.are) ∙ get_or_padded as_solved t
+      are_solved : (t : ℕ) → get_or subsets t 0 ≡ get_or as_solved t 0
+      are_solved t = ap (λ (l : List ℕ). get_or l t 0) (subsets_are ∙ ap padded told_subsets.are) ∙ get_or_padded as_solved t
 
-        -- The steps from the subsets are elimination's
-        pub steps_are : subset_plan (symbols code) (has wanted) subsets ≡ steps_from code asked (has known)
-        steps_are =
-            ap (λ (set : ℕ → Bool). subset_plan (symbols code) set subsets) (fun_ext chosen.wanted_are)
-            ∙ plan_of_same (λ t. get_or subsets t 0) (subset_from code (has known)) (symbols code) (targets code asked) same
-          where
-            same : (t : ℕ) → Memᴰ t (targets code asked) → get_or subsets t 0 ≡ subset_from code (has known) t
-            same t m =
-                let is_wanted = target_wanted code asked workable t m in
-                are_solved t
-                ∙ get_or_subsets (pivots_from code (has known)) (known_rows code (has known)) (matrix code) (symbols code) (asked_symbols code asked) t
-                (lost_below code.layout asked.disks t (asked_is_lost code asked workable t is_wanted))
-                ∙ ap (λ (c : Bool). cond c (subset_from code (has known) t) 0) is_wanted
+      -- The steps from the subsets are elimination's
+      pub steps_are : subset_plan (symbols code) (has wanted) subsets ≡ steps_from code asked (has known)
+      steps_are =
+          ap (λ (set : ℕ → Bool). subset_plan (symbols code) set subsets) (fun_ext chosen.wanted_are)
+          ∙ plan_of_same (λ t. get_or subsets t 0) (subset_from code (has known)) (symbols code) (targets code asked) same
+        where
+          same : (t : ℕ) → Memᴰ t (targets code asked) → get_or subsets t 0 ≡ subset_from code (has known) t
+          same t m =
+              let is_wanted = target_wanted code asked workable t m in
+              are_solved t
+              ∙ get_or_subsets (pivots_from code (has known)) (known_rows code (has known)) (matrix code) (symbols code) (asked_symbols code asked) t
+              (lost_below code.layout asked.disks t (asked_is_lost code asked workable t is_wanted))
+              ∙ ap (λ (c : Bool). cond c (subset_from code (has known) t) 0) is_wanted
 
-        -- They keep every rule of the check
-        subset_steps_right : RightSteps code asked (source_count (symbols code) (subset_plan (symbols code) (has wanted) subsets)) (subset_plan (symbols code) (has wanted) subsets)
-        subset_steps_right =
-            subst (λ (plan : List Step). RightSteps code asked (source_count (symbols code) plan) plan) (sym steps_are)
-            (steps_right_from code asked workable (has known) chosen.known_survive none_found)
+      -- They keep every rule of the check
+      subset_steps_right : RightSteps code asked (source_count (symbols code) (subset_plan (symbols code) (has wanted) subsets)) (subset_plan (symbols code) (has wanted) subsets)
+      subset_steps_right =
+          subst (λ (plan : List Step). RightSteps code asked (source_count (symbols code) plan) plan) (sym steps_are)
+          (steps_right_from code asked workable (has known) chosen.known_survive none_found)
 
-        -- The subsets are of the array's symbols
-        are_below : (t : ℕ) → get_or subsets t 0 < 2 ^ symbols code
-        are_below t =
-            subst (λ (subset : ℕ). subset < 2 ^ symbols code) (sym (are_solved t))
-            (subst (λ (m : ℕ). get_or as_solved t 0 < 2 ^ m) (known_counted code asked workable (has known) chosen.known_survive)
-            (subsets_below (pivots_from code (has known)) (known_rows code (has known)) (matrix code) (symbols code) (asked_symbols code asked) t))
+      -- The subsets are of the array's symbols
+      are_below : (t : ℕ) → get_or subsets t 0 < 2 ^ symbols code
+      are_below t =
+          subst (λ (subset : ℕ). subset < 2 ^ symbols code) (sym (are_solved t))
+          (subst (λ (m : ℕ). get_or as_solved t 0 < 2 ^ m) (known_counted code asked workable (has known) chosen.known_survive)
+          (subsets_below (pivots_from code (has known)) (known_rows code (has known)) (matrix code) (symbols code) (asked_symbols code asked) t))
 
-        -- They are sets of survivors that sum to the wanted rows
-        pub solved_right : RightSets code asked subsets
-        solved_right =
-            record {
-              below = are_below;
-              alive = λ t. (by_wish t (asked_symbols code asked t) refl).0;
-              sums = λ t is_wanted. (by_wish t true is_wanted).1 refl;
-              others_empty = λ t not_wanted. entry t ∙ ap (λ (c : Bool). cond c (subset_from code (has known) t) 0) not_wanted;
-            }
-          where
-            entry : (t : ℕ) → get_or subsets t 0 ≡ cond (asked_symbols code asked t) (subset_from code (has known) t) 0
-            entry t = are_solved t ∙ by_side (dec_lt t (symbols code))
-              where
-                by_side : Dec (t < symbols code) → get_or as_solved t 0 ≡ cond (asked_symbols code asked t) (subset_from code (has known) t) 0
-                by_side (yes h) = get_or_subsets (pivots_from code (has known)) (known_rows code (has known)) (matrix code) (symbols code) (asked_symbols code asked) t h
-                by_side (no h) =
-                    get_or_tabulate_behind (symbols code) (λ u. cond (asked_symbols code asked u) (subset_from code (has known) u) 0) t (omega arith)
-                    ∙ sym (ap (λ (c : Bool). cond c (subset_from code (has known) t) 0) (not_wanted_behind t (omega arith)))
+      -- They are sets of survivors that sum to the wanted rows
+      pub solved_right : RightSets code asked subsets
+      solved_right =
+          record {
+            below = are_below;
+            alive = λ t. (by_wish t (asked_symbols code asked t) refl).0;
+            sums = λ t is_wanted. (by_wish t true is_wanted).1 refl;
+            others_empty = λ t not_wanted. entry t ∙ ap (λ (c : Bool). cond c (subset_from code (has known) t) 0) not_wanted;
+          }
+        where
+          entry : (t : ℕ) → get_or subsets t 0 ≡ cond (asked_symbols code asked t) (subset_from code (has known) t) 0
+          entry t = are_solved t ∙ by_side (dec_lt t (symbols code))
+            where
+              by_side : Dec (t < symbols code) → get_or as_solved t 0 ≡ cond (asked_symbols code asked t) (subset_from code (has known) t) 0
+              by_side (yes h) = get_or_subsets (pivots_from code (has known)) (known_rows code (has known)) (matrix code) (symbols code) (asked_symbols code asked) t h
+              by_side (no h) =
+                  get_or_tabulate_behind (symbols code) (λ u. cond (asked_symbols code asked u) (subset_from code (has known) u) 0) t (omega arith)
+                  ∙ sym (ap (λ (c : Bool). cond c (subset_from code (has known) t) 0) (not_wanted_behind t (omega arith)))
 
-            by_wish : (t : ℕ) (wish : Bool) → asked_symbols code asked t ≡ wish
-                → Within (has (get_or subsets t 0)) (survives code.layout asked.disks) × (wish ≡ true → select (matrix code) (get_or subsets t 0) ≡ get_or (matrix code) t 0)
-            by_wish t true is_wanted =
-                let same = entry t ∙ ap (λ (c : Bool). cond c (subset_from code (has known) t) 0) is_wanted in (
-                  subst (λ (set : ℕ). Within (has set) (survives code.layout asked.disks)) (sym same) (subset_alive code asked workable (has known) chosen.known_survive t),
-                  λ yes.
-                      ap (select (matrix code)) same
-                      ∙ subset_sums code asked workable (has known) chosen.known_survive none_found t is_wanted,
-                )
-            by_wish t false not_wanted =
-                let same = entry t ∙ ap (λ (c : Bool). cond c (subset_from code (has known) t) 0) not_wanted in (
-                  subst (λ (set : ℕ). Within (has set) (survives code.layout asked.disks)) (sym same) (λ s h. absurd (true≢false (sym h ∙ has_empty s))),
-                  λ no. absurd (true≢false (sym no)),
-                )
+          by_wish : (t : ℕ) (wish : Bool) → asked_symbols code asked t ≡ wish
+              → Within (has (get_or subsets t 0)) (survives code.layout asked.disks) × (wish ≡ true → select (matrix code) (get_or subsets t 0) ≡ get_or (matrix code) t 0)
+          by_wish t true is_wanted =
+              let same = entry t ∙ ap (λ (c : Bool). cond c (subset_from code (has known) t) 0) is_wanted in (
+                subst (λ (set : ℕ). Within (has set) (survives code.layout asked.disks)) (sym same) (subset_alive code asked workable (has known) chosen.known_survive t),
+                λ yes.
+                    ap (select (matrix code)) same
+                    ∙ subset_sums code asked workable (has known) chosen.known_survive none_found t is_wanted,
+              )
+          by_wish t false not_wanted =
+              let same = entry t ∙ ap (λ (c : Bool). cond c (subset_from code (has known) t) 0) not_wanted in (
+                subst (λ (set : ℕ). Within (has set) (survives code.layout asked.disks)) (sym same) (λ s h. absurd (true≢false (sym h ∙ has_empty s))),
+                λ no. absurd (true≢false (sym no)),
+              )
 
-        -- They fit the sheet and the buffer
-        pub plan_fits : PlanFits asked.edition code.layout code.data_symbols asked.disks asked.wanted (has wanted) subsets room
-        plan_fits = fits_if_right wanted subsets are_below subset_steps_right
+      -- They fit the sheet and the buffer
+      pub plan_fits : PlanFits asked.edition code.layout code.data_symbols asked.disks asked.wanted (has wanted) subsets room
+      plan_fits = fits_if_right wanted subsets are_below subset_steps_right
 
-        -- A sheet written from them is a good plan's
-        pub worked_plan : {sheet_bytes reads : ℕ} {before after : List ℕ} → reads ≡ source_count (symbols code) (subset_plan (symbols code) (has wanted) subsets)
-            → sheet_bytes ≡ length (sheet_of code asked reads (subset_plan (symbols code) (has wanted) subsets))
-            → after ≡ at_front (sheet_of code asked reads (subset_plan (symbols code) (has wanted) subsets)) before
-            → WorkedFrom code asked (has known) before after (Gives (APlan sheet_bytes reads))
-        worked_plan reads_are length_is first_sheet = (written_if_right wanted subsets are_below subset_steps_right reads_are length_is first_sheet, steps_are)
+      -- A sheet written from them is a good plan's
+      pub worked_plan : {sheet_bytes reads : ℕ} {before after : List ℕ} → reads ≡ source_count (symbols code) (subset_plan (symbols code) (has wanted) subsets)
+          → sheet_bytes ≡ length (sheet_of code asked reads (subset_plan (symbols code) (has wanted) subsets))
+          → after ≡ at_front (sheet_of code asked reads (subset_plan (symbols code) (has wanted) subsets)) before
+          → WorkedFrom code asked (has known) before after (Gives (APlan sheet_bytes reads))
+      worked_plan reads_are length_is first_sheet = (written_if_right wanted subsets are_below subset_steps_right reads_are length_is first_sheet, steps_are)
 
   -- ------------------------------------------------------------------
   -- All survivors

@@ -4,7 +4,7 @@ use mathlib.Core.Bool.{Bool}
 use mathlib.Core.List.{List}
 use Prim.Native.Nat.{ℕ}
 use lib.Ieee.{Float}
-use lib.ListN.{length, take}
+use lib.ListN.{length}
 use Rattle.bits.specs.BitSets.{has}
 use Rattle.bits.specs.Numerals.{numeral, numerals}
 use Rattle.bits.specs.declared.BitSet.{BitSet}

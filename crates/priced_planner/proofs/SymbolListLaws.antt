@@ -8,8 +8,7 @@ use native.Mathlib.Decide.{dec_lt}
 use native.Mathlib.Omega.{arith}
 use borrow.Author.Tests.{ltb-true, lt-ltb, le-ltb, eq-eqb, eqb-true, eqb-false}
 use lib.Dec.{eqb, ltb}
-use lib.ListN.{length, get_or, take, set}
-use lib.Seq.{take-suc-set}
+use lib.ListN.{length, get_or, set}
 use Rattle.bits.specs.BitSets.{has, with}
 use Rattle.bits.specs.Lists.{symbols_in}
 use Rattle.bits.proofs.Booleans.{and_left, and_right, and_true_if_both, or_true_if_left, or_true_if_right}

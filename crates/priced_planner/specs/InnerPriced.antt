@@ -1,7 +1,7 @@
 -- The work of a priced plan once nothing is refused, for lost disks, away ones among them, and wanted symbols listed one by one.
-use Rattle.std.specs.Prelude.{◌≡◌, Bool, List, ℕ, ◌≤◌, Float, take}
+use Rattle.std.specs.Prelude.{◌≡◌, Bool, List, ℕ, Float}
 use Rattle.bits.specs.BitSets.{has}
-use Rattle.bits.specs.Numerals.{set_width, numeral, numerals}
+use Rattle.bits.specs.Numerals.{numeral, numerals}
 use Rattle.bits.specs.declared.BitSet.{BitSet}
 use Rattle.codes.specs.Codes.{LinearCode}
 use Rattle.plan_requests.specs.PlanRequests.{Asked, asked_symbols}
@@ -9,7 +9,6 @@ use Rattle.planning.specs.InnerPlan.{steps_found}
 use Rattle.planning.specs.InnerWork.{RightSets, SheetWritten, PatternsTell}
 use Rattle.prices.specs.declared.DiskState.{DiskState}
 use Rattle.refusals.specs.Orders.{Answer, Gives, Refuses}
-use Rattle.soundness.specs.Survivors.{EquationsFor, survivor_equations}
 use Rattle.priced_planner.specs.PricedPlanner.{PricedFound, APlan, APatterns, steps_by_sets, BySwaps}
 
 -- ------------------------------------------------------------------

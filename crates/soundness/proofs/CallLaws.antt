@@ -1,17 +1,13 @@
 -- Laws of the calls: what their verdicts say, and what the equations and the lowest column say of a code. Assumes nothing.
-use mathlib.Core.Path.{◌≡◌, refl, sym, ap, ap₂, ◌∙◌, subst, fun_ext}
-use mathlib.Core.Bool.{Bool, cond}
+use mathlib.Core.Path.{◌≡◌, refl, sym, ap, ◌∙◌, subst, fun_ext}
+use mathlib.Core.Bool.{Bool}
 use mathlib.Core.List.{List}
 use mathlib.Core.Logic.{◌↔◌}
-use Prim.Native.Nat.{ℕ, ◌*◌, ◌^◌, ◌≤◌, ◌<◌}
+use Prim.Native.Nat.{ℕ, ◌*◌, ◌≤◌, ◌<◌}
 use native.Mathlib.Omega.{arith}
-use lib.Bits.{bit_xor}
-use lib.ListN.{length, get_or, take}
+use lib.ListN.{length}
 use borrow.Author.Tests.{ltb-false, eqb-true, not-false}
 use Rattle.bits.specs.BitSets.{has}
-use Rattle.bits.specs.Numerals.{set_width, padded}
-use Rattle.bits.proofs.ListLaws.{length_tabulate}
-use Rattle.bits.proofs.PaddedLaws.{take_padded}
 use Rattle.code_sheets.specs.CodeReading.{CodeRead, reading}
 use Rattle.codes.specs.Codes.{LinearCode, symbols, matrix, WithinLimits}
 use Rattle.codes.specs.Layouts.{symbols_of}
@@ -19,8 +15,6 @@ use Rattle.codes.specs.Lengths.{stripe_faults}
 use Rattle.codes.specs.declared.Layout.{Layout}
 use Rattle.soundness.specs.InnerColumns.{LowestFailing}
 use Rattle.gf2.specs.InnerElimination.{units}
-use Rattle.gf2.specs.InnerElimination.{pivots, back_substitute}
-use Rattle.gf2.specs.InnerSubsetPlans.{survivors}
 use Rattle.gf2.specs.Stripes.{AreBytes}
 use Rattle.lists.specs.Lists.{GoodDisks}
 use Rattle.lists.proofs.ListLaws.{good_disks_if_no_fault}
@@ -30,9 +24,8 @@ use Rattle.plans.proofs.JudgementLaws.{length_matrix, matrix_below, matrix_survi
 use Rattle.refusals.specs.Orders.{Outcome, Fine, Refused, Answer, Gives, Refuses, Fault, and_then, outcome_of}
 use Rattle.refusals.specs.Refusals.{Numbered}
 use Rattle.refusals.proofs.OrderLaws.{refusal_stands, orders_join, fine_means_none_holds, none_holds_first, none_holds_second, refused_is_not_fine}
-use Rattle.solve.proofs.GatherLaws.{length_nonempty}
 use Rattle.soundness.specs.Survivors.{equations_verdict, test_faults, test_verdict, EquationsFor, survivor_equations, YesOrNo, Yes, No, CanBeSound, LowestUnsound, Says, IsYes, TestPromised}
-use Rattle.spans.specs.InnerSpans.{row_equations, unpivoted, equations_of}
+use Rattle.spans.specs.InnerSpans.{equations_of}
 use Rattle.spans.proofs.SurvivorLaws.{equations_right_and_enough}
 use Rattle.spans.proofs.SoundnessLaws.{sound_if_all_met, unsound_if_one_fails}
 

@@ -61,12 +61,7 @@ fn lowest_by_sums(
 }
 
 // The same, with room of its own for the sums: nothing that is lent is written.
-pub fn lowest_failing(
-    equations: &[BitSet],
-    symbols: usize,
-    size: usize,
-    stripe: &[u8],
-) -> usize
+pub fn lowest_failing(equations: &[BitSet], symbols: usize, size: usize, stripe: &[u8]) -> usize
     requires { (symbols ≤ set_width) × (size ≤ 65536) × (length stripe.now ≡ symbols * size) }
     ensures { LowestFailing size symbols stripe.now (numerals equations.now) result }
 {

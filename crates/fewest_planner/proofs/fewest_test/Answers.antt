@@ -1,13 +1,12 @@
 -- `fewest_planner::fewest_test` meets its contract: planning's tests, then the number of survivors. Assumes nothing.
-use mathlib.Core.Path.{◌≡◌, refl, sym, ap, ◌∙◌}
-use mathlib.Core.List.{List}
+use mathlib.Core.Path.{◌≡◌, sym, ap, ◌∙◌}
 use Prim.Native.Nat.{ℕ, ◌-◌, ◌^◌, ◌<◌}
 use native.Mathlib.Omega.{arith}
 use Rattle.std.specs.Prelude.{Ok}
 use Rattle.std.proofs.lemmas.Result.{err_from_is_err_and}
 use Rattle.bits.specs.BitSets.{has, count}
 use Rattle.bits.specs.Numerals.{set_width, numeral}
-use Rattle.codes.specs.Codes.{LinearCode, linear}
+use Rattle.codes.specs.Codes.{LinearCode}
 use Rattle.codes.proofs.LimitLaws.{layout_within}
 use Rattle.code_sheets.specs.CodeReading.{as_read}
 use Rattle.losses.proofs.LossLaws.{lost_counted}

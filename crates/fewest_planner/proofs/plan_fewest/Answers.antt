@@ -1,5 +1,5 @@
 -- `fewest_planner::plan_fewest` meets its contract: the refusal, or what the work answers and leaves. Assumes nothing.
-use mathlib.Core.Path.{◌≡◌, refl, sym, ap}
+use mathlib.Core.Path.{refl, sym, ap}
 use Rattle.std.specs.Prelude.{Ok}
 use Rattle.std.proofs.lemmas.Result.{err_from_is_err_and}
 use Rattle.code_sheets.specs.CodeReading.{CodeRead, as_read}

@@ -1,21 +1,7 @@
 -- `planning::subsets_from` meets its contract: the rows are the code's. Assumes nothing.
-use mathlib.Core.Path.{◌≡◌, sym, ap, ap₂, ◌∙◌, subst}
-use mathlib.Core.List.{List}
-use Prim.Native.Nat.{ℕ, ◌≤◌}
-use native.Mathlib.Omega.{arith}
+use mathlib.Core.Path.{sym, ◌∙◌}
 use borrow.Author.Tests.{eqb-true, eqb-false}
-use lib.ListN.{length, take}
-use lib.Seq.{length-take-le}
-use Rattle.bits.specs.BitSets.{has}
-use Rattle.bits.specs.Lists.{symbols_in}
-use Rattle.bits.specs.Numerals.{set_width, numeral, numerals}
-use Rattle.bits.specs.declared.BitSet.{BitSet}
-use Rattle.bits.proofs.NumeralLaws.{length_numerals}
-use Rattle.codes.specs.Codes.{LinearCode, linear, symbols, matrix, WithinLimits}
-use Rattle.gf2.specs.InnerElimination.{remaining, pivots, units}
-use Rattle.gf2.specs.InnerSubsetPlans.{survivors}
-use Rattle.solve.specs.InnerSolving.{odd_pattern, wanted_subsets}
-use Rattle.spans.specs.InnerSpans.{lost_patterns}
+use Rattle.codes.specs.Codes.{linear}
 use Rattle.planning.proofs.RowLaws.{one_each, few}
 use Rattle.planning.proofs.subsets_from.Goals as goal
 

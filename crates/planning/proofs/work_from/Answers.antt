@@ -1,9 +1,9 @@
 -- `planning::work_from` meets its contract: the patterns that tell what is gone, or the sheet of the steps from the subsets. Assumes nothing.
-use mathlib.Core.Path.{◌≡◌, ap, ◌∙◌}
+use mathlib.Core.Path.{ap, ◌∙◌}
 use mathlib.Core.List.{List}
 use Rattle.bits.specs.declared.BitSet.{BitSet}
 use Rattle.bits.specs.Numerals.{numeral, numerals, padded}
-use Rattle.codes.specs.Codes.{LinearCode, linear}
+use Rattle.codes.specs.Codes.{linear}
 use Rattle.plan_requests.specs.PlanRequests.{asked_by}
 use Rattle.planning.proofs.ResultLaws.{worked_patterns, plan_fits, worked_plan}
 use Rattle.planning.proofs.work_from.Goals as goal

@@ -1,5 +1,5 @@
 -- `priced_planner::plan_priced` meets its contract: the refusal, or what the work answers and leaves. Assumes nothing.
-use mathlib.Core.Path.{◌≡◌, sym, ap}
+use mathlib.Core.Path.{sym, ap}
 use Rattle.std.specs.Prelude.{Ok}
 use Rattle.std.proofs.lemmas.Result.{err_from_is_err_and}
 use Rattle.code_sheets.specs.CodeReading.{CodeRead, as_read}

@@ -1,5 +1,4 @@
 -- `soundness::test_by_equations` meets its contract: by the lowest column in which an equation fails. Assumes nothing.
-use mathlib.Core.List.{List}
 use native.Mathlib.Omega.{arith}
 use borrow.Author.Rules.{rules}
 use Rattle.codes.specs.Codes.{linear}

@@ -1,9 +1,7 @@
 -- `fewest_planner::work::work_out_fewest` meets its contract: the work from a smallest set of survivors that is enough. Assumes nothing.
 use mathlib.Core.Path.{sym, ◌∙◌, subst}
-use mathlib.Core.List.{List}
-use Prim.Native.Nat.{ℕ}
 use native.Mathlib.Omega.{arith}
-use Rattle.bits.specs.Numerals.{numeral, numerals}
+use Rattle.bits.specs.Numerals.{numeral}
 use Rattle.codes.specs.Codes.{LinearCode, linear}
 use Rattle.codes.proofs.LimitLaws.{layout_within}
 use Rattle.gf2.specs.Selection.{Below}

@@ -21,10 +21,10 @@ loop-disk-preserved c =
     let a = c.args in
     let loop = c.loop-disk in
     let test = sym c.is_away.ensures in
-      elim c.if-is_away.branch [
-        | then-is_away w ↦ rw w.lost-is (away_joins a.asked.now a.states.now loop.disk (numeral loop.lost) (test ∙ w.if-is_away.true) loop.invariant w.with-lost.ensures)
-        | else-is_away w ↦ rw w.lost-is (not_away_passes a.asked.now a.states.now loop.disk (numeral loop.lost) (test ∙ w.if-is_away.false) loop.invariant)
-      ]
+    elim c.if-is_away.branch [
+      | then-is_away w ↦ rw w.lost-is (away_joins a.asked.now a.states.now loop.disk (numeral loop.lost) (test ∙ w.if-is_away.true) loop.invariant w.with-lost.ensures)
+      | else-is_away w ↦ rw w.lost-is (not_away_passes a.asked.now a.states.now loop.disk (numeral loop.lost) (test ∙ w.if-is_away.false) loop.invariant)
+    ]
 
 pub returns : goal.returns
 returns c =

@@ -1,6 +1,6 @@
 -- The invariant of `priced_planner::lost_lists::lost_disks`: the set has the disks asked about, and those away among the disks passed.
 use mathlib.Core.Path.{◌≡◌}
-use Prim.Native.Nat.{ℕ, ◌-◌, ◌≤◌}
+use Prim.Native.Nat.{ℕ}
 use Rattle.bits.specs.BitSets.{has}
 use Rattle.bits.specs.Numerals.{numeral}
 use Rattle.priced_planner.specs.PricedPlanner.{is_lost}

@@ -2,7 +2,7 @@
 use mathlib.Core.Path.{sym, ap, ◌∙◌}
 use lib.Dec.{ltb}
 use Rattle.std.proofs.lemmas.Result.{err_from_is_err_and}
-use Rattle.plan_requests.specs.PlanRequests.{Asked, listed_on_set}
+use Rattle.plan_requests.specs.PlanRequests.{listed_on_set}
 use Rattle.refusals.specs.Orders.{Outcome, Fine, outcome, or_if}
 use Rattle.refusals.specs.Refusals.{◌at◌}
 use Rattle.priced_planner.proofs.RequestLaws.{refused_earlier, state_last}

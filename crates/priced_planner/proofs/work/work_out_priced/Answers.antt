@@ -1,6 +1,6 @@
 -- `priced_planner::work::work_out_priced` meets its contract: the patterns that tell what is gone, or the sets of the start, whose steps are planning's.
 -- Assumes nothing.
-use mathlib.Core.Path.{sym, ap, ◌∙◌, subst, fun_ext}
+use mathlib.Core.Path.{sym, ap, ◌∙◌, fun_ext}
 use mathlib.Core.Bool.{Bool}
 use mathlib.Core.List.{List}
 use Prim.Native.Nat.{ℕ}
@@ -9,7 +9,7 @@ use Rattle.bits.specs.Numerals.{numeral, numerals, padded}
 use Rattle.bits.specs.declared.BitSet.{BitSet}
 use Rattle.codes.specs.Codes.{LinearCode, linear, symbols}
 use Rattle.codes.proofs.LimitLaws.{layout_within}
-use Rattle.plan_requests.specs.PlanRequests.{Asked, asked_by}
+use Rattle.plan_requests.specs.PlanRequests.{asked_by}
 use Rattle.plan_sheets.specs.InnerPlanSheets.{subset_plan}
 use Rattle.planning.specs.InnerPlan.{steps_from}
 use Rattle.planning.specs.InnerWork.{Chosen}

@@ -1,6 +1,5 @@
 -- `priced_planner::work::write_settled` meets its contract: the final sets are right, so the steps from them make a good sheet. Assumes nothing.
 use native.Mathlib.Omega.{arith}
-use lib.ListN.{length}
 use Rattle.bits.specs.Numerals.{numerals}
 use Rattle.bits.proofs.NumeralLaws.{array_length}
 use Rattle.codes.specs.Codes.{LinearCode, linear}
@@ -19,8 +18,7 @@ settle-settling-requires c =
     let asked = asked_by a.request in
     let pre = c.requires in
     let made = c.equations_for-equations in
-    let equations = numerals made.result.items in
-    (
+    let equations = numerals made.result.items in (
       layout_within code pre.0.within,
       wanted_below code asked pre.0 equations made.ensures.list made.ensures.equations a.wanted a.start pre.1,
       omega (arith, array_length a.start _ c.well_formed.1.1.1.1.0, pre.0.within.symbols_to),

@@ -1,6 +1,4 @@
 -- The invariant of `soundness::columns::first_nonzero`: the bytes passed are zero.
-use Prim.Native.Nat.{◌-◌, ◌≤◌}
-use lib.ListN.{length}
 use Rattle.soundness.proofs.ByteLaws.{ZeroTo}
 use Rattle.soundness.proofs.columns.first_nonzero.Given as goal
 

@@ -7,7 +7,7 @@ use native.Mathlib.Omega.{arith}
 use lib.ListN.{length, get_or}
 use lib.Seq.{take_all}
 use Rattle.bits.specs.Numerals.{numerals}
-use Rattle.bits.proofs.NumeralLaws.{array_length, length_numerals, get_or_numerals}
+use Rattle.bits.proofs.NumeralLaws.{length_numerals, get_or_numerals}
 use Rattle.gf2.specs.Stripes.{encoded_symbol}
 use Rattle.gf2.proofs.SymbolLaws.{length_encoded_symbol}
 use Rattle.soundness.specs.InnerColumns.{LowestFailing}

@@ -1,7 +1,5 @@
 -- The invariant of `soundness::columns::union_of`: where the union so far is empty, the bytes passed are zero.
 use mathlib.Core.Path.{◌≡◌}
-use Prim.Native.Nat.{◌-◌, ◌≤◌}
-use lib.ListN.{length}
 use Rattle.soundness.proofs.ByteLaws.{ZeroTo}
 use Rattle.soundness.proofs.columns.union_of.Given as goal
 
