@@ -27,102 +27,103 @@
 
 ghost use Rattle.std.specs.Prelude.{◌≡◌, ◌≤◌, length};
 
-use bits::{BitSets, SET_WIDTH, low_word};
-use checker::Checked;
+use bits::{BitSet, low_word};
 use lists::is_same;
-use planner::{Planned, PlanningAnswer};
-use priced_planner::{Priced, PricedAnswer};
+use planner::Planned;
+use priced_planner::Priced;
 use prices::DiskStates;
 use records::{
-    contains, end_line, fill_part, filled, front_of, is_zero, number_at, print, print_bytes,
-    print_number, print_refusal, print_word, product, rest_at, same_behind, spread,
+    contains, fill_part, filled, front_of, is_zero, number_at, print_word, product, read_full,
+    rest_at, same_behind, spread,
 };
-use refusals::{Refusal, Verdict};
+use refusals::Refusal;
 use sheets::{byte_at, two_bytes_at};
-
-// The standard input's number among open files.
-const STDIN_FILENO: i32 = 0;
+use std::io;
+use std::io::Read;
 
 // The most bytes that a record, a buffer or a stripe has.
 const ROOM: usize = 4096;
 
-fn room() -> [u8; ROOM]
-    ensures { 4096 ≡ length result }
-{
-    [0; ROOM]
+// What a record asks for: a plan for one disk, without a list of wanted symbols or with one, or for a set of disks: any, one with the fewest
+// reads, or one at prices.
+#[derive(Clone, Copy, PartialEq, Eq)]
+enum Kind {
+    Disk,
+    DiskListed,
+    Set,
+    Fewest,
+    Priced,
 }
 
-fn kind_of(record: &[u8]) -> usize {
-    byte_at(record, 13)
-}
-
-fn list_in(record: &[u8]) -> &[u8] {
-    front_of(rest_at(record, 16), two_bytes_at(record, 14))
-}
-
-// The bytes after the list: the asked disks, where the record names a set, states, where reads have prices, and the code sheet.
-fn behind_list(record: &[u8]) -> &[u8] {
-    rest_at(rest_at(record, 16), two_bytes_at(record, 14))
-}
-
-// Whether a record names a set of disks.
-fn names_set(record: &[u8]) -> bool {
-    2 <= kind_of(record)
-}
-
-// How many disks of a set a record names.
-fn asked_count(record: &[u8]) -> usize {
-    if names_set(record) {
-        return number_at(record, 5);
+impl From<usize> for Kind {
+    fn from(number: usize) -> Kind {
+        match number {
+            0 => Kind::Disk,
+            1 => Kind::DiskListed,
+            2 => Kind::Set,
+            4 => Kind::Priced,
+            _ => Kind::Fewest,
+        }
     }
-    0
 }
 
-fn asked_in(record: &[u8]) -> &[u8] {
-    front_of(behind_list(record), asked_count(record))
+impl Kind {
+    // How many disks of a set a record of this kind names.
+    fn asked_count(self, record: &[u8]) -> usize {
+        match self {
+            Kind::Disk | Kind::DiskListed => 0,
+            Kind::Set | Kind::Fewest | Kind::Priced => number_at(record, 5),
+        }
+    }
 }
 
-// The bytes after the asked disks.
-fn behind_asked(record: &[u8]) -> &[u8] {
-    rest_at(behind_list(record), asked_count(record))
-}
-
-// Whether a record is of planning at prices.
-fn has_states(record: &[u8]) -> bool {
-    kind_of(record) == 4
-}
-
-// For how many disks a record has states; for none where it says more than 64.
-fn state_count(record: &[u8]) -> usize
+// For how many disks there are states; for none where their number is above 64.
+fn state_count(states: &[u8]) -> usize
     ensures { result ≤ 64 }
 {
-    let count = byte_at(behind_asked(record), 0);
+    let count = byte_at(states, 0);
     if count > 64 {
         return 0;
     }
     count
 }
 
-// How many bytes the states of a record take.
-fn states_length(record: &[u8]) -> usize {
-    if has_states(record) {
-        return 1 + 17 * state_count(record);
+// A record, and the disks that a question of it is about.
+#[derive(Clone, Copy)]
+struct Question<'a> {
+    record: &'a [u8],
+    kind: Kind,
+    disks: &'a [u8],
+    list: &'a [u8],
+    states: &'a [u8],
+    sheet: &'a [u8],
+}
+
+// A question of a record about these disks.
+fn question_about<'a>(record: &'a [u8], disks: &'a [u8]) -> Question<'a> {
+    let kind = Kind::from(byte_at(record, 13));
+    let list_length = two_bytes_at(record, 14);
+    let behind_list = rest_at(rest_at(record, 16), list_length);
+    let states = rest_at(behind_list, kind.asked_count(record));
+    let states_length = match kind {
+        Kind::Priced => 1 + 17 * state_count(states),
+        _ => 0,
+    };
+    Question {
+        record,
+        kind,
+        disks,
+        list: front_of(rest_at(record, 16), list_length),
+        states,
+        sheet: rest_at(states, states_length),
     }
-    0
 }
 
-fn sheet_in(record: &[u8]) -> &[u8] {
-    rest_at(behind_asked(record), states_length(record))
-}
-
-fn kinds_in(record: &[u8]) -> &[u8] {
-    front_of(rest_at(behind_asked(record), 1), state_count(record))
-}
-
-// Whether a record has a disk away.
-fn is_away(record: &[u8], disk: usize) -> bool {
-    let kinds = kinds_in(record);
-    has_states(record) && disk < kinds.len() && byte_at(kinds, disk) == 0
+// The set of disks that a record names.
+fn asked_in(record: &[u8]) -> &[u8] {
+    let kind = Kind::from(byte_at(record, 13));
+    let behind_list = rest_at(rest_at(record, 16), two_bytes_at(record, 14));
+    front_of(behind_list, kind.asked_count(record))
 }
 
 // The float with these bits. Those of a NaN, which are above infinity's but for the sign, give some NaN: Rattle takes them for no float.
@@ -133,78 +134,23 @@ fn float_of(bits: u64) -> f64 {
     f64::from_bits(bits)
 }
 
+// The bits of a sum as a number. What is not from 0 on, as no sum may be, is the highest number, which no sum has.
+fn bits_of(sum: f64) -> u64 {
+    if 0.0 <= sum {
+        return f64::to_bits(sum);
+    }
+    u64::MAX
+}
+
 // Floats by their bits, 8 bytes each.
 fn floats_in(bytes: &[u8]) -> [f64; 64]
     ensures { 64 ≡ length result }
 {
     let mut floats = [0.0; 64];
-    let mut i = 0;
-    while i < 64 {
-        let float = float_of(number_at(rest_at(bytes, 8 * i), 0) as u64);
-        floats[i] = float;
-        i += 1;
+    for i in 0..64 {
+        floats[i] = float_of(number_at(rest_at(bytes, 8 * i), 0) as u64);
     }
     floats
-}
-
-// The states that a record has. Where it has fewer than the array has disks, the lists end too early.
-fn states_in(record: &[u8]) -> DiskStates {
-    let count = state_count(record);
-    let bytes = behind_asked(record);
-    let prices = floats_in(rest_at(bytes, 1 + count));
-    let factors = floats_in(rest_at(bytes, 1 + 9 * count));
-    prices::kinds::states_told(kinds_in(record), &prices[0..count], &factors[0..count])
-}
-
-// The disk on which a symbol lies; 0 for a sheet whose disks have no symbols.
-fn disk_of(sheet: &[u8], symbol: usize) -> usize {
-    let height = byte_at(sheet, 3);
-    if height == 0 {
-        return 0;
-    }
-    symbol / height
-}
-
-// Whether a disk is lost: one that was asked about, or an away one.
-fn is_gone(record: &[u8], disks: &[u8], disk: usize) -> bool {
-    contains(disks, disk) || is_away(record, disk)
-}
-
-fn is_lost(record: &[u8], disks: &[u8], symbol: usize) -> bool {
-    is_gone(record, disks, disk_of(sheet_in(record), symbol))
-}
-
-// Wanted are the listed symbols, and without a list all those of the asked disks.
-fn is_wanted(record: &[u8], disks: &[u8], symbol: usize) -> bool {
-    let list = list_in(record);
-    if list.len() == 0 {
-        return contains(disks, disk_of(sheet_in(record), symbol));
-    }
-    contains(list, symbol)
-}
-
-fn is_fine(verdict: Verdict) -> bool {
-    match verdict {
-        Verdict::Fine => true,
-        Verdict::Refused(_) => false,
-    }
-}
-
-fn encodes(sheet: &[u8], size: usize, contents: &[u8], stripe: &mut [u8]) -> bool {
-    is_fine(encoding::encode(sheet, size, contents, stripe))
-}
-
-fn rebuilds(sheet: &[u8], disks: &[u8], plan: &[u8], size: usize, stripe: &mut [u8]) -> bool {
-    is_fine(rebuild::rebuild(sheet, disks, plan, size, stripe))
-}
-
-// Whether the checker accepts a plan with these reads.
-fn accepts(sheet: &[u8], disks: &[u8], plan: &[u8], reads: usize) -> bool {
-    let checked = checker::check(sheet, disks, plan);
-    match checked {
-        Checked::Accepted { reads: true_reads } => true_reads == reads,
-        Checked::Refused(_) => false,
-    }
 }
 
 // A list of a plan sheet: its entries, after their number at a place.
@@ -212,456 +158,387 @@ fn list_at(plan: &[u8], at: usize) -> &[u8] {
     front_of(rest_at(rest_at(plan, at), 1), byte_at(plan, at))
 }
 
-// Whether an edition 3 sheet lists these disks, and the wanted symbols that planning was given.
-fn lists_asked(record: &[u8], disks: &[u8], plan: &[u8]) -> bool {
-    let listed = byte_at(plan, 6);
-    (byte_at(plan, 0) == 5)
-        & (byte_at(plan, 1) == 3)
-        & is_same(list_at(plan, 6), disks)
-        & is_same(list_at(plan, 7 + listed), list_in(record))
-}
-
-// Whether a list has the disks of the array that are lost, and no others.
-fn has_lost(record: &[u8], disks: &[u8], listed: &[u8]) -> bool {
-    let count = byte_at(sheet_in(record), 2);
-    let mut disk = 0;
-    while disk < 256 {
-        let lost = disk < count && is_gone(record, disks, disk);
-        if contains(listed, disk) != lost {
+// Whether a list has the bytes for which this holds, and no others.
+fn has_just<F: Fn(usize) -> bool>(listed: &[u8], holds: F) -> bool
+    requires { F.IsAlwaysCallable holds }
+{
+    for entry in 0..256 {
+        if contains(listed, entry) != holds(entry) {
             return false;
         }
-        disk += 1;
     }
     true
 }
 
-// Whether a list has the wanted symbols of the array, and no others.
-fn has_wanted(record: &[u8], disks: &[u8], listed: &[u8]) -> bool {
-    let count = byte_at(sheet_in(record), 5);
-    let mut symbol = 0;
-    while symbol < 256 {
-        let wanted = symbol < count && is_wanted(record, disks, symbol);
-        if contains(listed, symbol) != wanted {
+// Whether a stripe of one byte a symbol is zero in every symbol that is chosen.
+fn is_zero_where<F: Fn(usize) -> bool>(stripe: &[u8], is_chosen: F) -> bool
+    requires { F.IsAlwaysCallable is_chosen }
+{
+    for (symbol, byte) in stripe.iter().enumerate() {
+        if *byte != 0 && is_chosen(symbol) {
             return false;
         }
-        symbol += 1;
     }
     true
 }
 
-// Whether an edition 3 sheet lists the lost disks, away ones among them, and the wanted symbols one by one.
-fn lists_lost(record: &[u8], disks: &[u8], plan: &[u8]) -> bool {
-    let listed = byte_at(plan, 6);
-    (byte_at(plan, 0) == 5)
-        & (byte_at(plan, 1) == 3)
-        & has_lost(record, disks, list_at(plan, 6))
-        & has_wanted(record, disks, list_at(plan, 7 + listed))
+fn encodes(sheet: &[u8], size: usize, contents: &[u8], stripe: &mut [u8]) -> bool {
+    encoding::encode(sheet, size, contents, stripe).is_ok()
 }
 
-// Whether a sheet is of the edition asked for, with the lists that planning was given.
-fn wants_asked(record: &[u8], disks: &[u8], plan: &[u8]) -> bool {
-    let edition = byte_at(plan, 1);
-    match kind_of(record) {
-        0 => edition == 1,
-        1 => (edition == 2) & is_same(list_at(plan, 7), list_in(record)),
-        4 => lists_lost(record, disks, plan),
-        _ => lists_asked(record, disks, plan),
+// Whether the checker accepts a plan with these reads.
+fn accepts(sheet: &[u8], disks: &[u8], plan: &[u8], reads: usize) -> bool {
+    checker::check(sheet, disks, plan).is_ok_and(|true_reads| true_reads == reads)
+}
+
+impl<'a> Question<'a> {
+    fn kinds(&self) -> &'a [u8] {
+        front_of(rest_at(self.states, 1), state_count(self.states))
     }
-}
 
-// Ruins a symbol of a stripe if it is lost. One that is not wanted is then as ruined in the whole stripe: a rebuild has to keep its bytes.
-fn ruin_symbol(
-    record: &[u8],
-    disks: &[u8],
-    symbol: usize,
-    size: usize,
-    stripe: &mut [u8],
-    whole: &mut [u8],
-) {
-    if !is_lost(record, disks, symbol) {
-        return;
+    // Whether the record has a disk away.
+    fn is_away(&self, disk: usize) -> bool {
+        let kinds = self.kinds();
+        self.kind == Kind::Priced && disk < kinds.len() && byte_at(kinds, disk) == 0
     }
-    let start = product(symbol, size);
-    let end = start + product(1, size);
-    fill_part(stripe, start, end, start);
-    if !is_wanted(record, disks, symbol) {
-        fill_part(whole, start, end, start);
+
+    // The states that the record has. Where it has fewer than the array has disks, the lists end too early.
+    fn disk_states(&self) -> DiskStates {
+        let count = state_count(self.states);
+        let prices = floats_in(rest_at(self.states, 1 + count));
+        let factors = floats_in(rest_at(self.states, 1 + 9 * count));
+        prices::kinds::states_told(self.kinds(), &prices[..count], &factors[..count])
     }
-}
 
-// Ruins the lost strips of a stripe.
-fn ruin(record: &[u8], disks: &[u8], size: usize, stripe: &mut [u8], whole: &mut [u8]) {
-    let symbols = byte_at(sheet_in(record), 5);
-    let mut symbol = 0;
-    while symbol < symbols {
-        ruin_symbol(record, disks, symbol, size, stripe, whole);
-        symbol += 1;
+    // The disk on which a symbol lies; 0 for a sheet whose disks have no symbols.
+    fn disk_of(&self, symbol: usize) -> usize {
+        let height = byte_at(self.sheet, 3);
+        if height == 0 {
+            return 0;
+        }
+        symbol / height
     }
-}
 
-// Ruins the lost strips of a stripe, and says whether a plan makes of it the whole stripe again, but for symbols that are not wanted.
-fn gives_back(
-    record: &[u8],
-    disks: &[u8],
-    lost: &[u8],
-    plan: &[u8],
-    size: usize,
-    stripe: &mut [u8],
-    whole: &mut [u8],
-) -> bool {
-    ruin(record, disks, size, stripe, whole);
-    rebuilds(sheet_in(record), lost, plan, size, stripe) & is_same(stripe, whole)
-}
-
-// Whether a plan restores the stripe of these data, for which there are two places.
-fn restores_from(
-    record: &[u8],
-    disks: &[u8],
-    lost: &[u8],
-    plan: &[u8],
-    size: usize,
-    contents: &[u8],
-    stripe: &mut [u8],
-    whole: &mut [u8],
-) -> bool {
-    let sheet = sheet_in(record);
-    encodes(sheet, size, contents, stripe)
-        & encodes(sheet, size, contents, whole)
-        & gives_back(record, disks, lost, plan, size, stripe, whole)
-}
-
-// Whether a plan restores a stripe of symbols of 1 to 7 bytes.
-fn restores(record: &[u8], disks: &[u8], lost: &[u8], plan: &[u8]) -> bool {
-    let sheet = sheet_in(record);
-    let seed = byte_at(record, 1);
-    let size = 1 + seed % 7;
-    let length = product(byte_at(sheet, 5), size);
-    let contents = filled(seed);
-    let mut stripe = room();
-    let mut whole = room();
-    restores_from(
-        record,
-        disks,
-        lost,
-        plan,
-        size,
-        front_of(&contents, product(byte_at(sheet, 4), size)),
-        &mut stripe[0..length],
-        &mut whole[0..length],
-    )
-}
-
-// Whether a symbol is wanted, or else whether it survives.
-fn is_chosen(record: &[u8], disks: &[u8], symbol: usize, wanted: bool) -> bool {
-    if wanted {
-        return is_wanted(record, disks, symbol);
+    // Whether a disk is lost: one that was asked about, or an away one.
+    fn is_gone(&self, disk: usize) -> bool {
+        contains(self.disks, disk) || self.is_away(disk)
     }
-    !is_lost(record, disks, symbol)
-}
 
-// Whether a stripe of one byte a symbol is zero in every wanted symbol, or else in every surviving one.
-fn is_zero_on(record: &[u8], disks: &[u8], stripe: &[u8], wanted: bool) -> bool {
-    let mut symbol = 0;
-    while symbol < stripe.len() {
-        if stripe[symbol] != 0 && is_chosen(record, disks, symbol, wanted) {
+    fn is_lost(&self, symbol: usize) -> bool {
+        self.is_gone(self.disk_of(symbol))
+    }
+
+    // Wanted are the listed symbols, and without a list all those of the asked disks.
+    fn is_wanted(&self, symbol: usize) -> bool {
+        if self.list.is_empty() {
+            return contains(self.disks, self.disk_of(symbol));
+        }
+        contains(self.list, symbol)
+    }
+
+    // Whether an edition 3 sheet lists the asked disks, and the wanted symbols that planning was given.
+    fn lists_asked(&self, plan: &[u8]) -> bool {
+        let listed = byte_at(plan, 6);
+        byte_at(plan, 0) == 5
+            && byte_at(plan, 1) == 3
+            && is_same(list_at(plan, 6), self.disks)
+            && is_same(list_at(plan, 7 + listed), self.list)
+    }
+
+    // Whether an edition 3 sheet lists the lost disks of the array, away ones among them, and its wanted symbols one by one.
+    fn lists_lost(&self, plan: &[u8]) -> bool {
+        let listed = byte_at(plan, 6);
+        let disks = byte_at(self.sheet, 2);
+        let symbols = byte_at(self.sheet, 5);
+        byte_at(plan, 0) == 5
+            && byte_at(plan, 1) == 3
+            && has_just(list_at(plan, 6), |disk| disk < disks && self.is_gone(disk))
+            && has_just(list_at(plan, 7 + listed), |symbol| {
+                symbol < symbols && self.is_wanted(symbol)
+            })
+    }
+
+    // Whether a sheet is of the edition asked for, with the lists that planning was given.
+    fn is_as_asked(&self, plan: &[u8]) -> bool {
+        let edition = byte_at(plan, 1);
+        match self.kind {
+            Kind::Disk => edition == 1,
+            Kind::DiskListed => edition == 2 && is_same(list_at(plan, 7), self.list),
+            Kind::Set | Kind::Fewest => self.lists_asked(plan),
+            Kind::Priced => self.lists_lost(plan),
+        }
+    }
+
+    // Ruins the lost strips of a stripe. A symbol that is not wanted is then as ruined in the whole stripe: a rebuild has to keep its bytes.
+    fn ruin(&self, size: usize, stripe: &mut [u8], whole: &mut [u8]) {
+        for symbol in 0..byte_at(self.sheet, 5) {
+            if self.is_lost(symbol) {
+                let start = product(symbol, size);
+                let end = start + product(1, size);
+                fill_part(stripe, start, end, start);
+                if !self.is_wanted(symbol) {
+                    fill_part(whole, start, end, start);
+                }
+            }
+        }
+    }
+
+    // Whether a plan for these lost disks restores a stripe of symbols of 1 to 7 bytes, but for lost symbols that are not wanted.
+    fn restores(&self, lost: &[u8], plan: &[u8]) -> bool {
+        let seed = byte_at(self.record, 1);
+        let size = 1 + seed % 7;
+        let length = product(byte_at(self.sheet, 5), size);
+        let data = filled(seed);
+        let contents = front_of(&data, product(byte_at(self.sheet, 4), size));
+        let mut stripe_room = [0; ROOM];
+        let mut whole_room = [0; ROOM];
+        let stripe = &mut stripe_room[..length];
+        let whole = &mut whole_room[..length];
+        if !encodes(self.sheet, size, contents, stripe) {
             return false;
         }
-        symbol += 1;
-    }
-    true
-}
-
-// Whether the stripe of these data is zero on every surviving symbol and not in every wanted one.
-fn shows_loss(record: &[u8], disks: &[u8], contents: &[u8], stripe: &mut [u8]) -> bool {
-    encodes(sheet_in(record), 1, contents, stripe)
-        & is_zero_on(record, disks, stripe, false)
-        & !is_zero_on(record, disks, stripe, true)
-}
-
-// Whether a pattern has bits below K alone, and a stripe that shows that the wanted symbols can't all be rebuilt.
-fn is_good(record: &[u8], disks: &[u8], pattern: u64) -> bool {
-    let sheet = sheet_in(record);
-    let bits = spread(pattern);
-    let data_symbols = byte_at(sheet, 4);
-    let length = byte_at(sheet, 5);
-    let mut stripe = room();
-    let contents = front_of(&bits, data_symbols);
-    shows_loss(record, disks, contents, &mut stripe[0..length])
-        & is_zero(rest_at(&bits, data_symbols))
-}
-
-// Whether each of the first `count` patterns is good.
-fn are_good(record: &[u8], disks: &[u8], patterns: BitSets, count: usize) -> bool {
-    let mut i = 0;
-    while i < SET_WIDTH {
-        if i == count {
-            return true;
-        }
-        if !is_good(record, disks, low_word(patterns[i])) {
+        if !encodes(self.sheet, size, contents, whole) {
             return false;
         }
-        i += 1;
+        self.ruin(size, stripe, whole);
+        rebuild::rebuild(self.sheet, lost, plan, size, stripe).is_ok() && is_same(stripe, whole)
     }
-    true
-}
 
-fn print_counts(name: &[u8], length: usize, reads: usize) {
-    print(name);
-    print_number(length as u64);
-    print_number(reads as u64);
-}
-
-fn print_judged(accepted: bool, behind_same: bool, restored: bool) {
-    print_word(accepted, b"accepted");
-    print_word(behind_same, b"behind-same");
-    print_word(restored, b"restored");
-}
-
-// Prints what holds of a plan for these lost disks, and its bytes if asked for.
-fn judge_plan(
-    record: &[u8],
-    disks: &[u8],
-    lost: &[u8],
-    plan: &[u8],
-    reads: usize,
-    behind_same: bool,
-) {
-    print_judged(
-        accepts(sheet_in(record), lost, plan, reads) & wants_asked(record, disks, plan),
-        behind_same,
-        restores(record, disks, lost, plan),
-    );
-    if byte_at(record, 0) == 1 {
-        print_bytes(plan);
+    // Whether a pattern has bits below K alone, and a stripe that shows that the wanted symbols can't all be rebuilt: it is zero on every
+    // surviving symbol and not in every wanted one.
+    fn is_good(&self, pattern: u64) -> bool {
+        let bits = spread(pattern);
+        let data_symbols = byte_at(self.sheet, 4);
+        let mut room = [0; ROOM];
+        let stripe = &mut room[..byte_at(self.sheet, 5)];
+        encodes(self.sheet, 1, front_of(&bits, data_symbols), stripe)
+            && is_zero(rest_at(&bits, data_symbols))
+            && is_zero_where(stripe, |symbol| !self.is_lost(symbol))
+            && !is_zero_where(stripe, |symbol| self.is_wanted(symbol))
     }
-}
 
-fn print_plan(record: &[u8], disks: &[u8], plan: &[u8], reads: usize, behind_same: bool) {
-    print_counts(b"plan", plan.len(), reads);
-    judge_plan(record, disks, disks, plan, reads, behind_same);
-}
-
-// Prints the bits of a sum as a number. What is not from 0 on, as no sum may be, is the highest number, which no sum has.
-fn print_sum(sum: f64) {
-    if 0.0 <= sum {
-        print_number(f64::to_bits(sum));
-        return;
-    }
-    print_number(u64::MAX);
-}
-
-fn print_settled(settled: bool) {
-    if settled {
-        print(b" settled");
-        return;
-    }
-    print(b" stopped");
-}
-
-// Prints a plan at prices. What it is to be judged by are the lost disks that it lists.
-fn print_priced(
-    record: &[u8],
-    disks: &[u8],
-    plan: &[u8],
-    reads: usize,
-    sum: f64,
-    settled: bool,
-    behind_same: bool,
-) {
-    print_counts(b"priced", plan.len(), reads);
-    print_sum(sum);
-    print_settled(settled);
-    judge_plan(record, disks, list_at(plan, 6), plan, reads, behind_same);
-}
-
-// Prints the first `count` patterns.
-fn print_each(patterns: BitSets, count: usize) {
-    let mut i = 0;
-    while i < SET_WIDTH {
-        if i == count {
-            return;
+    // Whether each pattern is good.
+    fn are_good(&self, patterns: &[BitSet]) -> bool {
+        for pattern in patterns {
+            if !self.is_good(low_word(*pattern)) {
+                return false;
+            }
         }
-        print_number(low_word(patterns[i]));
-        i += 1;
+        true
+    }
+
+    // Prints what holds of a plan for these lost disks, and its bytes if asked for.
+    fn judge_plan(
+        &self,
+        rt: &impl Print,
+        lost: &[u8],
+        plan: &[u8],
+        reads: usize,
+        behind_same: bool,
+    ) -> io::Result<()> {
+        let accepted = accepts(self.sheet, lost, plan, reads) && self.is_as_asked(plan);
+        print_word(rt, accepted, "accepted")?;
+        print_word(rt, behind_same, "behind-same")?;
+        print_word(rt, self.restores(lost, plan), "restored")?;
+        if byte_at(self.record, 0) == 1 {
+            print!(rt; " ")?;
+            for byte in plan {
+                print!(rt; "{byte:02x}")?;
+            }
+        }
+        Ok(())
+    }
+
+    fn print_plan(
+        &self,
+        rt: &impl Print,
+        plan: &[u8],
+        reads: usize,
+        behind_same: bool,
+    ) -> io::Result<()> {
+        let length = plan.len();
+        print!(rt; "plan {length} {reads}")?;
+        self.judge_plan(rt, self.disks, plan, reads, behind_same)
+    }
+
+    // Prints a plan at prices. What it is to be judged by are the lost disks that it lists.
+    fn print_priced(
+        &self,
+        rt: &impl Print,
+        plan: &[u8],
+        reads: usize,
+        sum: f64,
+        settled: bool,
+        behind_same: bool,
+    ) -> io::Result<()> {
+        let length = plan.len();
+        let bits = bits_of(sum);
+        let word = if settled { "settled" } else { "stopped" };
+        print!(rt; "priced {length} {reads} {bits} {word}")?;
+        self.judge_plan(rt, list_at(plan, 6), plan, reads, behind_same)
+    }
+
+    fn print_patterns(
+        &self,
+        rt: &impl Print,
+        patterns: &[BitSet],
+        unchanged: bool,
+    ) -> io::Result<()> {
+        let count = patterns.len();
+        print!(rt; "patterns {count}")?;
+        for pattern in patterns {
+            let number = low_word(*pattern);
+            print!(rt; " {number}")?;
+        }
+        print_word(rt, unchanged, "same")?;
+        print_word(rt, self.are_good(patterns), "good")
+    }
+
+    // Prints what planning answered, and what became of its buffer, which was as the copy is.
+    fn print_answer(
+        &self,
+        rt: &impl Print,
+        answer: Result<Planned, Refusal>,
+        buffer: &[u8],
+        copy: &[u8],
+    ) -> io::Result<()> {
+        match answer {
+            Ok(Planned::Plan { length, reads }) => self.print_plan(
+                rt,
+                front_of(buffer, length),
+                reads,
+                same_behind(buffer, copy, length),
+            ),
+            Ok(Planned::Patterns(patterns)) => {
+                self.print_patterns(rt, patterns.as_slice(), is_same(buffer, copy))
+            }
+            Err(refusal) => print_refused(rt, refusal, is_same(buffer, copy)),
+        }
+    }
+
+    // Prints what planning at prices answered, and what became of its buffer, which was as the copy is.
+    fn print_priced_answer(
+        &self,
+        rt: &impl Print,
+        answer: Result<Priced, Refusal>,
+        buffer: &[u8],
+        copy: &[u8],
+    ) -> io::Result<()> {
+        match answer {
+            Ok(
+                Priced::Plan {
+                    length,
+                    reads,
+                    sum,
+                    settled,
+                },
+            ) => self.print_priced(
+                rt,
+                front_of(buffer, length),
+                reads,
+                sum,
+                settled,
+                same_behind(buffer, copy, length),
+            ),
+            Ok(Priced::Patterns(patterns)) => {
+                self.print_patterns(rt, patterns.as_slice(), is_same(buffer, copy))
+            }
+            Err(refusal) => print_refused(rt, refusal, is_same(buffer, copy)),
+        }
+    }
+
+    // Asks for a plan: for one disk, without a list or with one, or for a set of disks, any plan or one with the fewest reads.
+    fn plan(&self, disk: usize, buffer: &mut [u8]) -> Result<Planned, Refusal> {
+        match self.kind {
+            Kind::Disk => planner::plan(self.sheet, disk, buffer),
+            Kind::DiskListed => planner::plan_wanted(self.sheet, disk, self.list, buffer),
+            Kind::Set => planner::plan_disks(self.sheet, self.disks, self.list, buffer),
+            Kind::Fewest | Kind::Priced => {
+                fewest_planner::plan_fewest(self.sheet, self.disks, self.list, buffer)
+            }
+        }
+    }
+
+    // Asks with a buffer of the record's length, and prints the answer.
+    fn ask(&self, rt: &impl Print, disk: usize) -> io::Result<()> {
+        let length = two_bytes_at(self.record, 2);
+        if length > ROOM {
+            return Ok(());
+        }
+        let seed = byte_at(self.record, 1);
+        let mut room = filled(seed);
+        let copy = filled(seed);
+        let buffer = &mut room[..length];
+        if self.kind == Kind::Priced {
+            let answer = priced_planner::plan_priced(
+                self.sheet,
+                self.disks,
+                self.list,
+                self.disk_states(),
+                buffer,
+            );
+            return self.print_priced_answer(rt, answer, buffer, front_of(&copy, length));
+        }
+        let answer = self.plan(disk, buffer);
+        self.print_answer(rt, answer, buffer, front_of(&copy, length))
     }
 }
 
-fn print_patterns(patterns: BitSets, count: usize, unchanged: bool, good: bool) {
-    print(b"patterns");
-    print_number(count as u64);
-    print_each(patterns, count);
-    print_word(unchanged, b"same");
-    print_word(good, b"good");
+fn print_refused(rt: &impl Print, refusal: Refusal, unchanged: bool) -> io::Result<()> {
+    print!(rt; "{refusal}")?;
+    print_word(rt, unchanged, "same")
 }
 
-fn print_refused(refusal: Refusal, unchanged: bool) {
-    print_refusal(refusal);
-    print_word(unchanged, b"same");
-}
-
-// Prints what planning answered, and what became of its buffer, which was as the copy is.
-fn print_answer(record: &[u8], disks: &[u8], answer: PlanningAnswer, buffer: &[u8], copy: &[u8]) {
-    let planned = answer.planned;
-    let patterns = answer.patterns;
-    match planned {
-        Planned::Plan { length, reads } => print_plan(
-            record,
-            disks,
-            front_of(buffer, length),
-            reads,
-            same_behind(buffer, copy, length),
-        ),
-        Planned::Patterns { count } => print_patterns(
-            patterns,
-            count,
-            is_same(buffer, copy),
-            are_good(record, disks, patterns, count),
-        ),
-        Planned::Refused(refusal) => print_refused(refusal, is_same(buffer, copy)),
-    }
-}
-
-// Prints what planning at prices answered, and what became of its buffer, which was as the copy is.
-fn print_priced_answer(
-    record: &[u8],
-    disks: &[u8],
-    answer: PricedAnswer,
-    buffer: &[u8],
-    copy: &[u8],
-) {
-    let priced = answer.priced;
-    let patterns = answer.patterns;
-    match priced {
-        Priced::Plan {
-            length,
-            reads,
-            sum,
-            settled,
-        } => print_priced(
-            record,
-            disks,
-            front_of(buffer, length),
-            reads,
-            sum,
-            settled,
-            same_behind(buffer, copy, length),
-        ),
-        Priced::Patterns { count } => print_patterns(
-            patterns,
-            count,
-            is_same(buffer, copy),
-            are_good(record, disks, patterns, count),
-        ),
-        Priced::Refused(refusal) => print_refused(refusal, is_same(buffer, copy)),
-    }
-}
-
-// Asks for a plan: for one disk, without a list or with one, or for a set of disks, any plan or one with the fewest reads.
-fn plan(record: &[u8], disk: usize, disks: &[u8], buffer: &mut [u8]) -> PlanningAnswer {
-    let sheet = sheet_in(record);
-    match kind_of(record) {
-        0 => planner::plan(sheet, disk, buffer),
-        1 => planner::plan_wanted(sheet, disk, list_in(record), buffer),
-        2 => planner::plan_disks(sheet, disks, list_in(record), buffer),
-        _ => fewest_planner::plan_fewest(sheet, disks, list_in(record), buffer),
-    }
-}
-
-fn ask_priced(record: &[u8], disks: &[u8], buffer: &mut [u8], copy: &[u8]) {
-    let answer = priced_planner::plan_priced(
-        sheet_in(record),
-        disks,
-        list_in(record),
-        states_in(record),
-        buffer,
-    );
-    print_priced_answer(record, disks, answer, buffer, copy);
-}
-
-fn ask(record: &[u8], disk: usize, disks: &[u8], buffer: &mut [u8], copy: &[u8]) {
-    if has_states(record) {
-        ask_priced(record, disks, buffer, copy);
-        return;
-    }
-    let answer = plan(record, disk, disks, buffer);
-    print_answer(record, disks, answer, buffer, copy);
-}
-
-// Asks about a disk or a set of disks, with a buffer of the record's length. What is answered for one disk is judged by the set of it alone.
-fn ask_about(record: &[u8], disk: usize, disks: &[u8]) {
-    let length = two_bytes_at(record, 2);
-    if length > ROOM {
-        return;
-    }
-    let mut buffer = filled(byte_at(record, 1));
-    let copy = filled(byte_at(record, 1));
-    ask(
-        record,
-        disk,
-        disks,
-        &mut buffer[0..length],
-        front_of(&copy, length),
-    );
-}
-
-// A disk as an entry of a set. One that a byte can't hold is refused, so that no plan or pattern is judged by its entry.
-fn entry_of(disk: usize) -> u8 {
-    (disk % 256) as u8
-}
-
-fn ask_about_disk(record: &[u8], disk: usize) {
-    let disks = [entry_of(disk)];
-    ask_about(record, disk, &disks[0..1]);
-}
-
-// Asks about each disk that a record names, one after the other.
-fn ask_about_each(record: &[u8]) {
-    let mut left = byte_at(record, 4);
+// Asks about each disk that a record names, one after the other. What is answered for a disk is judged by the set of it alone; one that a byte
+// can't hold is refused, so that nothing is judged by its entry.
+fn ask_about_each(rt: &impl Print, record: &[u8]) -> io::Result<()> {
     let mut disk = number_at(record, 5);
-    while left > 0 {
-        ask_about_disk(record, disk);
-        end_line();
+    for _ in 0..byte_at(record, 4) {
+        let disks = [(disk % 256) as u8];
+        question_about(record, &disks).ask(rt, disk)?;
+        println!(rt; "")?;
         if disk > 64 {
-            return;
+            break;
         }
         disk += 1;
-        left -= 1;
+    }
+    Ok(())
+}
+
+fn answer(rt: &impl Print, record: &[u8]) -> io::Result<()> {
+    match Kind::from(byte_at(record, 13)) {
+        Kind::Disk | Kind::DiskListed => ask_about_each(rt, record),
+        Kind::Set | Kind::Fewest | Kind::Priced => {
+            question_about(record, asked_in(record)).ask(rt, 0)?;
+            println!(rt; "")
+        }
     }
 }
 
-fn answer(record: &[u8]) {
-    if names_set(record) {
-        ask_about(record, 0, asked_in(record));
-        end_line();
-        return;
-    }
-    ask_about_each(record);
-}
-
-// Answers a record of a length, or says that there is none.
-fn answer_next(place: &mut [u8], length: usize) -> bool {
-    if length > place.len() {
-        return false;
-    }
-    if io::read_full(STDIN_FILENO, &mut place[0..length]) < length {
-        return false;
-    }
-    answer(&place[0..length]);
-    true
-}
-
-fn next_record() -> bool {
+// Answers the next record, or says that there is none.
+fn answer_next(rt: &impl Print, input: &mut impl Read) -> io::Result<bool> {
     let mut head = [0u8; 2];
-    if io::read_full(STDIN_FILENO, &mut head) < 2 {
-        return false;
+    if read_full(input, &mut head)? < 2 {
+        return Ok(false);
     }
-    let mut place = room();
-    answer_next(&mut place, two_bytes_at(&head, 0))
+    let length = two_bytes_at(&head, 0);
+    if length > ROOM {
+        return Ok(false);
+    }
+    let mut record = [0u8; ROOM];
+    if read_full(input, &mut record[..length])? < length {
+        return Ok(false);
+    }
+    answer(rt, &record[..length])?;
+    Ok(true)
 }
 
-fn main() {
-    let mut turns = u64::MAX;
-    while turns > 0 && next_record() {
-        turns -= 1;
+fn main(rt: HostRuntime) -> io::Result<()> {
+    let mut input = rt.stdin();
+    for _ in 0..u64::MAX {
+        if !answer_next(&rt, &mut input)? {
+            break;
+        }
     }
+    Ok(())
 }

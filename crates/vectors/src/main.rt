@@ -144,12 +144,7 @@ fn show_strip(rt: &impl Print, record: &[u8], stripe: &mut [u8]) -> io::Result<(
     print_part(rt, views::strip(sheet, disk, size, stripe))
 }
 
-fn look_up(
-    rt: &impl Print,
-    record: &[u8],
-    stripe: &mut [u8],
-    spare: &mut [u8],
-) -> io::Result<()> {
+fn look_up(rt: &impl Print, record: &[u8], stripe: &mut [u8], spare: &mut [u8]) -> io::Result<()> {
     let disk = number_at(record, 1);
     let size = number_at(record, 9);
     let symbol = number_at(record, 49);

@@ -1,5 +1,4 @@
 -- `records::front_of` meets its contract. Assumes nothing.
-use Rattle.std.proofs.Common.{arith}
 use Rattle.records.proofs.PartLaws.{front_whole, front_none}
 use Rattle.records.proofs.front_of.Goals as goal
 
