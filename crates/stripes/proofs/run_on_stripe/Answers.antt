@@ -25,7 +25,7 @@ do_pass-requires c =
     let loop = c.loop-number in
     let step = c.step_at-step in
     let sources = c.sources_next-sources in
-    let decoded = c.decoded in
+    let decoded = c.from in
     let read = decoded.ensures ∙ ap step_of step.ensures in (
       next_fits args.size args.steps.now args.count args.stripe.now loop.stripe loop.number (omega arith) loop.invariant decoded.result read,
       sources_within args.size args.steps.now args.count args.stripe.now loop.stripe loop.number (omega arith) loop.invariant decoded.result read _ _
@@ -38,7 +38,7 @@ loop-number-preserved c =
     let loop = c.loop-number in
     let step = c.step_at-step in
     let sources = c.sources_next-sources in
-    let decoded = c.decoded in
+    let decoded = c.from in
     let next : loop.number + 1 + length sources.result.items ≡ loop.number + (1 + c.len.result) = omega (arith, c.len.ensures.value) in
     subst (Remaining args.size args.steps.now args.count args.stripe.now _) next
     (remaining_pass args.size args.steps.now args.count args.stripe.now loop.stripe loop.number (omega arith) loop.invariant decoded.result
