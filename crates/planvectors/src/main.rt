@@ -474,7 +474,7 @@ impl<'a> Question<'a> {
                 self.sheet,
                 self.disks,
                 self.list,
-                self.disk_states(),
+                &self.disk_states(),
                 buffer,
             );
             return self.print_priced_answer(rt, answer, buffer, front_of(&copy, length));
