@@ -6,7 +6,7 @@ ghost use Rattle.bits.specs.Numerals.{set_width, numerals};
 ghost use Rattle.refusals.specs.Orders.{outcome, first_of};
 ghost use Rattle.code_limits.specs.CodeLimits.{limit_faults, stray_fault};
 
-use bits::{BitSet, lowest_from};
+use bits::{BitSet, has, lowest_from};
 use refusals::{Refusal, Verdict, refuse_if};
 
 // The limits of an array.
@@ -28,13 +28,17 @@ pub fn stray_test(rows: &[BitSet], data_symbols: usize) -> Verdict
     requires { (length rows.now ≤ set_width) × (data_symbols ≤ 64) }
     ensures { outcome result ≡ first_of (stray_fault (numerals rows.now) (length rows.now) data_symbols ∷ []) }
 {
-    for (row, bits) in rows.iter().enumerate() {
-        let bit = lowest_from(*bits, data_symbols);
-        if bit < 64 {
-            return Err(Refusal::StrayBit {
-                place: row * 64 + bit,
-            });
+    let mut stray = None;
+    'search: for (row, bits) in rows.iter().enumerate() {
+        for bit in lowest_from(*bits, data_symbols)..64 {
+            if has(*bits, bit) {
+                stray = Some(row * 64 + bit);
+                break 'search;
+            }
         }
     }
-    Ok(())
+    match stray {
+        Some(place) => Err(Refusal::StrayBit { place }),
+        None => Ok(()),
+    }
 }
