@@ -54,7 +54,10 @@ pub fn run_on_rows(
     let mut known = loss.survivors;
     let mut sources = empty();
     for number in 0..count {
-        let step = read_step(steps, number, symbols, wanted, known)?;
+        let reading = read_step(steps, number, symbols, wanted, known);
+        let Ok(step) = reading else {
+            return Err(reading.unwrap_err());
+        };
         let target = step.target();
         let source = source_of(step);
         rows[target] = value_of(step, rows[target], rows[source]);

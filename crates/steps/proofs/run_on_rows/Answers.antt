@@ -1,7 +1,6 @@
 -- `steps::run_on_rows` meets its contract. Assumes nothing.
-use Rattle.std.proofs.Common.{sym}
+use Rattle.std.proofs.Common.{◌≡◌, Err, sym, ◌∙◌}
 use native.Mathlib.Nat.{sub-zero}
-use Rattle.std.proofs.lemmas.Result.{err_from_is_err_and}
 use Rattle.bits.specs.BitSets.{has}
 use Rattle.bits.specs.Numerals.{numeral, numerals}
 use Rattle.bits.proofs.NumeralLaws.{get_or_numerals, numerals_set}
@@ -15,11 +14,11 @@ loop-number-init c =
     let loss = args.loss in
     rw (sub-zero, c.empty-sources.ensures) (remaining_all loss.symbols (has (numeral loss.wanted)) (numerals args.code_rows) (numeral loss.survivors) (sheet_steps args.count args.steps.now))
 
-pub returns-in_err-step : goal.returns-in_err-step
-returns-in_err-step c =
-    let gives = err_from_is_err_and c.from_residual.result c.from_residual.ensures.1 in
-    rw (gives.1, gives.2)
-    (remaining_refused (remaining_first c.args.count c.args.steps.now c.loop-number.invariant c.loop-number-test.true) _ (sym c.in_err-step.ensures.answer))
+pub returns-in_default : goal.returns-in_default
+returns-in_default c =
+    let named : Err c.in_default.field-0 ≡ Err c.unwrap_err.result = sym c.in_default.is ∙ c.unwrap_err.ensures in
+    let same : c.unwrap_err.result ≡ c.in_default.field-0 = cc in
+    rw same (remaining_refused (remaining_first c.args.count c.args.steps.now c.loop-number.invariant c.loop-number-test.true) _ (sym c.in_default.ensures.answer))
 
 pub loop-number-preserved : goal.loop-number-preserved
 loop-number-preserved c =
@@ -29,7 +28,7 @@ loop-number-preserved c =
     let value = c.value_of in
     let reached = remaining_first c.args.count c.args.steps.now loop.invariant c.loop-number-test.true in
     rw (numerals_set loop.rows target.result value.result)
-    (remaining_next reached (sym c.in_ok-step.ensures.answer) c.requires.0 target.ensures source.ensures
+    (remaining_next reached (sym c.in-Ok.ensures.answer) c.requires.0 target.ensures source.ensures
     (rw (get_or_numerals loop.rows target.result, get_or_numerals loop.rows source.result) at value.ensures) c.with-known.ensures c.with-sources.ensures)
 
 pub returns : goal.returns
