@@ -5,10 +5,10 @@
 ghost use Rattle.std.specs.Prelude.{◌≡◌, ◌%◌, ◌^◌, get_or};
 ghost use Rattle.bits.specs.Numerals.{numerals};
 ghost use Rattle.plans.specs.Check.{as_checked};
-ghost use Rattle.refusals.specs.Orders.{outcome};
+ghost use Rattle.refusals.specs.Orders.{outcome, Gives};
 ghost use Rattle.code_sheets.specs.CodeReading.{as_read};
 ghost use Rattle.families.specs.FamilySheets.{as_written};
-ghost use Rattle.planning.specs.Planning.{as_planned};
+ghost use Rattle.planning.specs.Planning.{as_planned, APatterns};
 ghost use Rattle.answers.specs.InnerFits.{PatternFits};
 ghost use Rattle.answers.specs.Answers.{out_verdict, out_code, out_sheet, out_checked, out_planned, out_pattern, out_part};
 
@@ -220,6 +220,22 @@ pub fn out_pattern(answer: &Result<Planned, Refusal>, index: usize) -> OutSet
     }
 }
 
+// Patterns, as they go out: how many there are and the first of them.
+pub fn out_patterns(patterns: &SetList) -> OutPlanned
+    requires { PatternFits (Gives (APatterns (numerals patterns.now.items))) }
+    ensures { result ≡ out_planned (Gives (APatterns (numerals patterns.now.items))) }
+{
+    OutPlanned {
+        number: 0,
+        place: 0,
+        length: 0,
+        reads: 0,
+        pattern: listed_word(patterns, 0),
+        pattern_high: 0,
+        patterns: patterns.len(),
+    }
+}
+
 // Planning's answer, as it goes out.
 pub fn out_planned(answer: &Result<Planned, Refusal>) -> OutPlanned
     requires { PatternFits (as_planned answer.now) }
@@ -235,15 +251,7 @@ pub fn out_planned(answer: &Result<Planned, Refusal>) -> OutPlanned
             pattern_high: 0,
             patterns: 0,
         },
-        Ok(Planned::Patterns(patterns)) => OutPlanned {
-            number: 0,
-            place: 0,
-            length: 0,
-            reads: 0,
-            pattern: listed_word(patterns, 0),
-            pattern_high: 0,
-            patterns: patterns.len(),
-        },
+        Ok(Planned::Patterns(patterns)) => out_patterns(patterns),
         Err(refusal) => OutPlanned {
             number: refusal.number(),
             place: refusal.place(),

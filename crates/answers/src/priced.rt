@@ -4,7 +4,7 @@ ghost use Rattle.priced_planner.specs.PricedPlanner.{as_priced, unpriced};
 ghost use Rattle.answers.specs.InnerFits.{PatternFits};
 ghost use Rattle.answers.specs.PricedAnswers.{out_priced};
 
-use crate::listed_word;
+use crate::out_patterns;
 use priced_planner::Priced;
 use refusals::Refusal;
 
@@ -25,6 +25,7 @@ pub struct OutPriced {
 }
 
 // The answer of priced planning, as it goes out.
+#[tactic(auto, using(prices::proofs::PriceLaws::zero_is))]
 pub fn out_priced(answer: &Result<Priced, Refusal>) -> OutPriced
     requires { PatternFits (unpriced (as_priced answer.now)) }
     ensures { result ≡ out_priced (as_priced answer.now) }
@@ -46,17 +47,20 @@ pub fn out_priced(answer: &Result<Priced, Refusal>) -> OutPriced
             pattern_high: 0,
             patterns: 0,
         },
-        Ok(Priced::Patterns(patterns)) => OutPriced {
-            number: 0,
-            place: 0,
-            length: 0,
-            reads: 0,
-            settled: 0,
-            sum: 0.0,
-            pattern: listed_word(patterns, 0),
-            pattern_high: 0,
-            patterns: patterns.len(),
-        },
+        Ok(Priced::Patterns(patterns)) => {
+            let shown = out_patterns(patterns);
+            OutPriced {
+                number: 0,
+                place: 0,
+                length: 0,
+                reads: 0,
+                settled: 0,
+                sum: 0.0,
+                pattern: shown.pattern,
+                pattern_high: 0,
+                patterns: shown.patterns,
+            }
+        }
         Err(refusal) => OutPriced {
             number: refusal.number(),
             place: refusal.place(),
