@@ -9,8 +9,7 @@ use lib.ListN.{length, get_or}
 use Rattle.cases.proofs.ComputedTests.{first_failing, bytes_if_tested, meets_if_tested}
 use Rattle.code_sheets.specs.CodeReading.{reading}
 use Rattle.codes.specs.Codes.{LinearCode, symbols, matrix, WithinLimits}
-use Rattle.elimination.specs.InnerPatterns.{unit_patterns}
-use Rattle.elimination.proofs.PatternLaws.{unit_patterns_start}
+use Rattle.gf2.specs.InnerElimination.{units}
 use Rattle.gf2.specs.Selection.{select}
 use Rattle.gf2.proofs.Columns.{column}
 use Rattle.plans.specs.Judgement.{survives}
@@ -29,7 +28,7 @@ module _ (code : LinearCode) (within : WithinLimits code) (disks stripe : List �
     (whole : length stripe ≡ symbols code * 1) where
   equations : EquationsFor code disks (survivor_equations code disks)
   equations =
-      equations_right_and_enough code.data_symbols (unit_patterns code.data_symbols) (unit_patterns_start code.data_symbols) (matrix code) (matrix_below code within)
+      equations_right_and_enough code.data_symbols (units code.data_symbols) (λ i. refl) (matrix code) (matrix_below code within)
       (survives code.layout disks) (matrix_survives_below code within disks)
 
   -- Where all of them are met the survivors can be sound
