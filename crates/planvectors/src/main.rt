@@ -33,7 +33,7 @@ use planner::Planned;
 use priced_planner::Priced;
 use prices::DiskStates;
 use records::{
-    contains, fill_part, filled, front_of, is_zero, number_at, print_word, product, read_full,
+    Said, contains, fill_part, filled, front_of, is_zero, number_at, product, read_full,
     rest_at, same_behind, spread,
 };
 use refusals::Refusal;
@@ -337,9 +337,10 @@ impl<'a> Question<'a> {
         behind_same: bool,
     ) -> io::Result<()> {
         let accepted = accepts(self.sheet, lost, plan, reads) && self.is_as_asked(plan);
-        print_word(rt, accepted, "accepted")?;
-        print_word(rt, behind_same, "behind-same")?;
-        print_word(rt, self.restores(lost, plan), "restored")?;
+        let accepted = Said { holds: accepted, word: "accepted" };
+        let behind_same = Said { holds: behind_same, word: "behind-same" };
+        let restored = Said { holds: self.restores(lost, plan), word: "restored" };
+        print!(rt; "{accepted}{behind_same}{restored}")?;
         if byte_at(self.record, 0) == 1 {
             print!(rt; " ")?;
             for byte in plan {
@@ -390,8 +391,9 @@ impl<'a> Question<'a> {
             let number = low_word(*pattern);
             print!(rt; " {number}")?;
         }
-        print_word(rt, unchanged, "same")?;
-        print_word(rt, self.are_good(patterns), "good")
+        let same = Said { holds: unchanged, word: "same" };
+        let good = Said { holds: self.are_good(patterns), word: "good" };
+        print!(rt; "{same}{good}")
     }
 
     // Prints what planning answered, and what became of its buffer, which was as the copy is.
@@ -486,7 +488,8 @@ impl<'a> Question<'a> {
 
 fn print_refused(rt: &impl Print, refusal: Refusal, unchanged: bool) -> io::Result<()> {
     print!(rt; "{refusal}")?;
-    print_word(rt, unchanged, "same")
+    let same = Said { holds: unchanged, word: "same" };
+    print!(rt; "{same}")
 }
 
 // Asks about each disk that a record names, one after the other. What is answered for a disk is judged by the set of it alone; one that a byte
@@ -518,7 +521,7 @@ fn answer(rt: &impl Print, record: &[u8]) -> io::Result<()> {
 // Answers the next record, or says that there is none.
 fn answer_next(rt: &impl Print, input: &mut impl Read) -> io::Result<bool> {
     let mut head = [0u8; 2];
-    if read_full(input, &mut head)? < 2 {
+    if read_full(input, &mut head) < 2 {
         return Ok(false);
     }
     let length = two_bytes_at(&head, 0);
@@ -526,7 +529,7 @@ fn answer_next(rt: &impl Print, input: &mut impl Read) -> io::Result<bool> {
         return Ok(false);
     }
     let mut record = [0u8; ROOM];
-    if read_full(input, &mut record[..length])? < length {
+    if read_full(input, &mut record[..length]) < length {
         return Ok(false);
     }
     answer(rt, &record[..length])?;

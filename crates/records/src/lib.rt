@@ -3,14 +3,14 @@
 // All numbers of a record have their low byte first.
 #![tactic(auto)]
 
-ghost use Rattle.std.specs.Prelude.{◌≡◌, ◌≤◌, length, take, drop, replicate, IfOk};
+ghost use Rattle.std.specs.Prelude.{◌≡◌, ◌≤◌, length, take, drop, replicate};
 ghost use Rattle.lists.specs.Lists.{listed, same};
 ghost use Rattle.records.specs.Records.{number_at, front, small_product, seeded, filled_part, digest_from, low_bits};
 ghost use Rattle.sheets.specs.Buffers.{at_front};
 
 use lists::is_same;
 use sheets::two_bytes_at;
-use std::io;
+use std::fmt;
 use std::io::Read;
 
 // The number in the 8 bytes at a place of a record.
@@ -135,22 +135,31 @@ pub fn spread(pattern: u64) -> [u8; 64]
     bits
 }
 
-// A word, after a blank, with "not-" in front of it where it does not hold.
-pub fn print_word(rt: &impl Print, holds: bool, word: &str) -> io::Result<()> {
-    let not = if holds { "" } else { "not-" };
-    print!(rt; " {not}{word}")
+// What is said of an answer: a word, after a blank, with "not-" in front of it where it does not hold.
+#[derive(Clone, Copy)]
+pub struct Said<'a> {
+    pub holds: bool,
+    pub word: &'a str,
 }
 
-// Reads until the buffer is full or the input ends, and answers how many bytes that were.
-pub fn read_full(input: &mut impl Read, buffer: &mut [u8]) -> io::Result<usize>
-    ensures { IfOk result (λ got. got ≤ length buffer.new) }
+impl<'a> fmt::Display for Said<'a> {
+    fn fmt<W: fmt::Write>(&self, f: &mut fmt::Formatter<W>) -> fmt::Result {
+        let not = if self.holds { "" } else { "not-" };
+        let word = self.word;
+        write!(f, " {not}{word}")
+    }
+}
+
+// Reads until the buffer is full or the input ends, which a read that fails does too, and answers how many bytes that were.
+pub fn read_full(input: &mut impl Read, buffer: &mut [u8]) -> usize
+    ensures { result ≤ length buffer.new }
 {
     let mut got = 0;
     while got < buffer.len() {
-        match input.read(&mut buffer[got..])? {
-            0 => break,
-            count => got += count,
+        match input.read(&mut buffer[got..]) {
+            Ok(0) | Err(_) => break,
+            Ok(count) => got += count,
         }
     }
-    Ok(got)
+    got
 }

@@ -305,7 +305,7 @@ fn answer(rt: &impl Print, record: &[u8]) -> io::Result<()> {
 // Answers the next record, or says that there is none. A record that ends too early is answered as far as it goes.
 fn answer_next(rt: &impl Print, input: &mut impl Read) -> io::Result<bool> {
     let mut head = [0u8; 2];
-    if read_full(input, &mut head)? < 2 {
+    if read_full(input, &mut head) < 2 {
         return Ok(false);
     }
     let length = two_bytes_at(&head, 0);
@@ -313,7 +313,7 @@ fn answer_next(rt: &impl Print, input: &mut impl Read) -> io::Result<bool> {
         return Ok(false);
     }
     let mut record = [0u8; RECORD];
-    let got = read_full(input, &mut record[..length])?;
+    let got = read_full(input, &mut record[..length]);
     answer(rt, &record[..got])?;
     Ok(true)
 }
