@@ -33,8 +33,8 @@ use planner::Planned;
 use priced_planner::Priced;
 use prices::DiskStates;
 use records::{
-    Said, contains, fill_part, filled, front_of, is_zero, number_at, product, read_full,
-    rest_at, same_behind, spread,
+    Said, contains, fill_part, filled, front_of, is_zero, number_at, product, read_full, rest_at,
+    same_behind, spread,
 };
 use refusals::Refusal;
 use sheets::{byte_at, two_bytes_at};
@@ -337,9 +337,18 @@ impl<'a> Question<'a> {
         behind_same: bool,
     ) -> io::Result<()> {
         let accepted = accepts(self.sheet, lost, plan, reads) && self.is_as_asked(plan);
-        let accepted = Said { holds: accepted, word: "accepted" };
-        let behind_same = Said { holds: behind_same, word: "behind-same" };
-        let restored = Said { holds: self.restores(lost, plan), word: "restored" };
+        let accepted = Said {
+            holds: accepted,
+            word: "accepted",
+        };
+        let behind_same = Said {
+            holds: behind_same,
+            word: "behind-same",
+        };
+        let restored = Said {
+            holds: self.restores(lost, plan),
+            word: "restored",
+        };
         print!(rt; "{accepted}{behind_same}{restored}")?;
         if byte_at(self.record, 0) == 1 {
             print!(rt; " ")?;
@@ -391,8 +400,14 @@ impl<'a> Question<'a> {
             let number = low_word(*pattern);
             print!(rt; " {number}")?;
         }
-        let same = Said { holds: unchanged, word: "same" };
-        let good = Said { holds: self.are_good(patterns), word: "good" };
+        let same = Said {
+            holds: unchanged,
+            word: "same",
+        };
+        let good = Said {
+            holds: self.are_good(patterns),
+            word: "good",
+        };
         print!(rt; "{same}{good}")
     }
 
@@ -488,7 +503,10 @@ impl<'a> Question<'a> {
 
 fn print_refused(rt: &impl Print, refusal: Refusal, unchanged: bool) -> io::Result<()> {
     print!(rt; "{refusal}")?;
-    let same = Said { holds: unchanged, word: "same" };
+    let same = Said {
+        holds: unchanged,
+        word: "same",
+    };
     print!(rt; "{same}")
 }
 
