@@ -1,13 +1,13 @@
 // Equations among the known symbols of an array: sets of them whose rows sum to zero.
 #![tactic(auto)]
 
-ghost use Rattle.std.specs.Prelude.{◌≡◌, ◌&&◌, ◌≤◌, ◌<◌, eqb, length};
+ghost use Rattle.std.specs.Prelude.{◌≡◌, ◌&&◌, ◌≤◌, ◌<◌, eqb, length, take};
 ghost use Rattle.bits.specs.BitSets.{has};
 ghost use Rattle.bits.specs.Numerals.{set_width, numeral, numerals};
 ghost use Rattle.gf2.specs.InnerElimination.{units};
 ghost use Rattle.spans.specs.InnerSpans.{row_equations, unpivoted, equations_of};
 
-use bits::{BitSet, empty, has, is_empty, sum, with};
+use bits::{BitSet, BitSets, empty, has, is_empty, sum, with};
 use solve::{Elimination, SetList, eliminate_known, nonempty_sets};
 
 // Whether a symbol is known and its row has no pivot.
@@ -38,12 +38,12 @@ fn row_equations(eliminated: &Elimination, known: BitSet) -> SetList
 }
 
 // The equations that elimination over the known rows gives.
-pub fn equations_among(rows: &[BitSet], data_symbols: usize, known: BitSet) -> SetList
-    requires rows_fit { length rows.now ≤ set_width }
+pub fn equations_among(rows: BitSets, symbols: usize, data_symbols: usize, known: BitSet) -> SetList
+    requires rows_fit { symbols ≤ set_width }
     requires data_fit { data_symbols ≤ set_width }
-    ensures { numerals result.items ≡ equations_of (units data_symbols) (has (numeral known)) (numerals rows.now) }
+    ensures { numerals result.items ≡ equations_of (units data_symbols) (has (numeral known)) (take symbols (numerals rows)) }
 {
-    let eliminated = eliminate_known(rows, data_symbols, known);
+    let eliminated = eliminate_known(rows, symbols, data_symbols, known);
     let of_rows = row_equations(&eliminated, known);
     nonempty_sets(of_rows.as_slice())
 }

@@ -32,7 +32,12 @@ pub fn subsets_from(code: &Code, wanted: BitSet, known: BitSet) -> Result<SetLis
     ensures lost { IfErr result (λ lost. PatternsLost (linear code.now) (has (numeral known)) (has (numeral wanted)) (numerals lost.items)) }
 {
     let rows = code.matrix();
-    let mut eliminated = eliminate_known(rows, code.data_symbols, known);
+    let mut eliminated = eliminate_known(
+        code.rows,
+        code.layout.symbols(),
+        code.data_symbols,
+        known,
+    );
     if !is_empty(eliminated.odd_pattern(rows, wanted)) {
         return Err(eliminated.lost_patterns(rows, wanted));
     }

@@ -2,7 +2,7 @@
 // and for each wanted symbol the subset of the known ones that sums to it; and where some are out of reach, the patterns that are lost with them.
 #![tactic(auto)]
 
-ghost use Rattle.std.specs.Prelude.{◌≡◌, ◌≤◌, length};
+ghost use Rattle.std.specs.Prelude.{◌≡◌, ◌≤◌, length, take};
 ghost use Rattle.bits.specs.BitSets.{has};
 ghost use Rattle.bits.specs.Lists.{symbols_in};
 ghost use Rattle.bits.specs.Numerals.{set_width, numeral, numerals};
@@ -12,7 +12,7 @@ ghost use Rattle.solve.specs.InnerSolving.{odd_pattern, wanted_subsets};
 ghost use Rattle.spans.specs.InnerSpans.{lost_patterns};
 
 use back_substitution::back_substitute;
-use bits::{BitSet, empty, has, is_empty};
+use bits::{BitSet, BitSets, empty, has, is_empty};
 pub use elimination::SetList;
 use elimination::{eliminate, pivot_for, unit_patterns};
 
@@ -52,15 +52,22 @@ pub struct Elimination {
     ghost one_each: { length pivots.items ≡ length surviving.items },
 }
 
-// The known ones of the rows taken in, from the unit patterns of the data symbols on.
-pub fn eliminate_known(rows: &[BitSet], data_symbols: usize, known: BitSet) -> Elimination
-    requires rows_fit { length rows.now ≤ set_width }
+// The known ones of the code's rows taken in, from the unit patterns of the data symbols on. The rows come as an array by value, the form that
+// document 01 names.
+#[tactic(auto, using(bits::proofs::NumeralLaws::numerals_take))]
+pub fn eliminate_known(
+    rows: BitSets,
+    symbols: usize,
+    data_symbols: usize,
+    known: BitSet,
+) -> Elimination
+    requires rows_fit { symbols ≤ set_width }
     requires data_fit { data_symbols ≤ set_width }
-    ensures surviving { numerals result.surviving.items ≡ survivors (has (numeral known)) (numerals rows.now) }
-    ensures pivots { numerals result.pivots.items ≡ pivots (units data_symbols) (survivors (has (numeral known)) (numerals rows.now)) }
-    ensures remaining { numerals result.remaining.items ≡ remaining (units data_symbols) (survivors (has (numeral known)) (numerals rows.now)) }
+    ensures surviving { numerals result.surviving.items ≡ survivors (has (numeral known)) (take symbols (numerals rows)) }
+    ensures pivots { numerals result.pivots.items ≡ pivots (units data_symbols) (survivors (has (numeral known)) (take symbols (numerals rows))) }
+    ensures remaining { numerals result.remaining.items ≡ remaining (units data_symbols) (survivors (has (numeral known)) (take symbols (numerals rows))) }
 {
-    let surviving = surviving_rows(rows, known);
+    let surviving = surviving_rows(&rows[..symbols], known);
     let mut remaining = unit_patterns(data_symbols);
     let pivots = eliminate(remaining.as_mut_slice(), surviving.as_slice());
     Elimination {

@@ -46,7 +46,12 @@ pub fn equations_for(code: &Code, disks: &[u8]) -> SetList
     let layout = code.layout;
     let gone = lost_symbols(layout, disks);
     let loss = loss_of(layout, disks, gone, 3, &[]);
-    equations_among(code.matrix(), code.data_symbols, loss.survivors)
+    equations_among(
+        code.rows,
+        layout.symbols(),
+        code.data_symbols,
+        loss.survivors,
+    )
 }
 
 // A list of equations among the survivors of a set of lost disks: sets of surviving symbols whose rows sum to zero. Survivors meet all of them exactly

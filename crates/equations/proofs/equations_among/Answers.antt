@@ -3,7 +3,7 @@ use mathlib.Core.Path.{◌≡◌, ap, ap₂, ◌∙◌}
 use mathlib.Core.List.{List}
 use Prim.Native.Nat.{ℕ}
 use native.Mathlib.Omega.{arith}
-use lib.ListN.{length}
+use lib.ListN.{length, take}
 use Rattle.bits.specs.BitSets.{has}
 use Rattle.bits.specs.Numerals.{numeral, numerals}
 use Rattle.bits.proofs.NumeralLaws.{length_numerals}
@@ -14,7 +14,7 @@ use Rattle.equations.proofs.equations_among.Goals as goal
 
 pub returns : goal.returns
 returns c =
-    let rows = numerals c.args.rows.now in
+    let rows = take c.args.symbols (numerals c.args.rows) in
     let known = has (numeral c.args.known) in
     let found = c.eliminate_known-eliminated in
     let surviving = found.ensures.surviving in

@@ -1,17 +1,14 @@
 -- `soundness::equations_for` meets its contract: the equations among the rows of the symbols that survive. Assumes nothing.
 use mathlib.Core.Path.{ap, ◌∙◌}
-use mathlib.Core.List.{List}
 use Prim.Native.Nat.{ℕ}
 use native.Mathlib.Omega.{arith}
 use borrow.Author.Tests.{ltb-true}
-use lib.ListN.{length}
+use lib.ListN.{take}
 use Rattle.bits.specs.BitSets.{has}
 use Rattle.bits.specs.Numerals.{numeral}
-use Rattle.bits.proofs.NumeralLaws.{length_numerals}
 use Rattle.codes.specs.Codes.{linear}
 use Rattle.codes.proofs.LimitLaws.{layout_within}
 use Rattle.gf2.specs.InnerElimination.{units}
-use Rattle.plans.proofs.JudgementLaws.{length_matrix}
 use Rattle.spans.specs.InnerSpans.{equations_of}
 use Rattle.soundness.proofs.CallLaws.{are_equations, equations_for_code}
 use Rattle.soundness.proofs.equations_for.Goals as goal
@@ -29,9 +26,7 @@ loss_of-loss-requires c = (
 )
 
 pub equations_among-requires-clause-rows_fit : goal.equations_among-requires-clause-rows_fit
-equations_among-requires-clause-rows_fit c =
-    let within = c.args.code.now.within in
-    omega (arith, length_numerals c.matrix.result.now, ap (λ (l : List ℕ). length l) c.matrix.ensures, length_matrix (linear c.args.code.now) within, within.symbols_to)
+equations_among-requires-clause-rows_fit c = omega (arith, c.symbols.ensures, c.args.code.now.within.symbols_to)
 
 pub returns : goal.returns
 returns c =
@@ -40,5 +35,5 @@ returns c =
     let disks = c.args.disks.now in
     let loss = c.loss_of-loss in
     let known = numeral loss.result.survivors in
-    let made = c.equations_among.ensures ∙ ap (equations_of (units code.data_symbols) (has known)) c.matrix.ensures in
+    let made = c.equations_among.ensures ∙ ap (λ (count : ℕ). equations_of (units code.data_symbols) (has known) (take count code.rows)) c.symbols.ensures in
     record { list = are_equations code within disks known loss.ensures.survivors made; equations = equations_for_code code within disks known loss.ensures.survivors made }
