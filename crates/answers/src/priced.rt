@@ -31,12 +31,14 @@ pub fn out_priced(answer: &Result<Priced, Refusal>) -> OutPriced
     ensures { result ≡ out_priced (as_priced answer.now) }
 {
     match answer {
-        Ok(Priced::Plan {
-            length,
-            reads,
-            sum,
-            settled,
-        }) => OutPriced {
+        Ok(
+            Priced::Plan {
+                length,
+                reads,
+                sum,
+                settled,
+            },
+        ) => OutPriced {
             number: 0,
             place: 0,
             length: *length,

@@ -48,7 +48,15 @@ pub fn read_code(sheet: &[u8]) -> Result<Code, Refusal>
     let height = byte_at(sheet, 3);
     let data_symbols = byte_at(sheet, 4);
     let symbols = byte_at(sheet, 5);
-    head_test(sheet.len(), count, edition, disks, height, data_symbols, symbols)?;
+    head_test(
+        sheet.len(),
+        count,
+        edition,
+        disks,
+        height,
+        data_symbols,
+        symbols,
+    )?;
     let rows = read_rows(sheet, symbols);
     stray_test(&rows[..symbols], data_symbols)?;
     Ok(Code {

@@ -61,10 +61,14 @@ module _ (size data_symbols : ℕ) (rows bytes stripe : List ℕ) (exact : lengt
       ∙ ap (λ (l : List ℕ). l ++ drop ((s + 1) * size) stripe) one_more
 
   -- All of them
-  pub written_all : (count : ℕ) → length rows ≤ count → length stripe ≤ count * size → written_to size data_symbols rows bytes stripe count ≡ encoding size data_symbols rows bytes
-  written_all count h whole =
-      ap₂ (λ (some behind : List ℕ). encoding size data_symbols some bytes ++ behind) (take_all count rows h) (drop_of_length-le stripe {i = count * size} whole)
-      ∙ append-nil (encoding size data_symbols rows bytes)
+  pub written_all : (count : ℕ) → length stripe ≤ count * size → written_to size data_symbols rows bytes stripe count ≡ encoding size data_symbols (take count rows) bytes
+  written_all count whole =
+      ap (λ (behind : List ℕ). encoding size data_symbols (take count rows) bytes ++ behind) (drop_of_length-le stripe {i = count * size} whole)
+      ∙ append-nil (encoding size data_symbols (take count rows) bytes)
+
+  -- All of them, where each has its row
+  pub written_whole : (count : ℕ) → length rows ≤ count → length stripe ≤ count * size → written_to size data_symbols rows bytes stripe count ≡ encoding size data_symbols rows bytes
+  written_whole count h whole = written_all count whole ∙ ap (λ (some : List ℕ). encoding size data_symbols some bytes) (take_all count rows h)
 
 -- Where a symbol ends, in numbers far from a word's last
 pub symbol_end_small : (s count size : ℕ) → count ≤ set_width → size ≤ 65536 → s < count → (s + 1) * size ≤ set_width * 65536

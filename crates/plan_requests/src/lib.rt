@@ -37,12 +37,7 @@ fn least_buffer(edition: usize) -> usize
 }
 
 // 23, 34: these symbols are lost.
-fn list_and_room_test(
-    edition: usize,
-    gone: BitSet,
-    wanted: &[u8],
-    buffer_length: usize,
-) -> Verdict
+fn list_and_room_test(edition: usize, gone: BitSet, wanted: &[u8], buffer_length: usize) -> Verdict
     ensures { outcome result ≡ first_of (list_faults (least_wanted edition) (cond (eqb edition 1) 0 (count (numeral gone))) (has (numeral gone)) wanted.now (λ position. 23 at position) ++ room_faults edition buffer_length) }
 {
     let most = most_wanted(edition, gone);

@@ -554,12 +554,12 @@ fn answer_next(rt: &impl Print, input: &mut impl Read) -> io::Result<bool> {
     Ok(true)
 }
 
-fn main(rt: HostRuntime) -> io::Result<()> {
+fn main(rt: HostRuntime) {
     let mut input = rt.stdin();
     for _ in 0..u64::MAX {
-        if !answer_next(&rt, &mut input)? {
+        // What can't be printed ends the program as the end of its input does.
+        if !answer_next(&rt, &mut input).unwrap_or(false) {
             break;
         }
     }
-    Ok(())
 }

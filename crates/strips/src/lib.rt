@@ -7,7 +7,7 @@ ghost use Rattle.strips.specs.Strips.{strip_faults, strip_verdict, strip_shown};
 ghost use Rattle.strips.specs.Places.{nowhere, strip_place, Shows, beginning};
 
 use code_sheets::read_code;
-use codes::{Code, stripe_test};
+use codes::{Layout, stripe_test};
 use refusals::{Refusal, Verdict, refuse_if};
 
 // Where a part lies: in the spare strip or in the stripe, from which byte on, and how many bytes.
@@ -30,11 +30,12 @@ pub fn nowhere() -> Part
 }
 
 // 7, 31, 32.
-pub fn strip_test(code: &Code, disk: usize, size: usize, bytes: usize) -> Verdict
-    ensures { outcome result ≡ first_of (strip_faults code.now.layout disk size bytes) }
+pub fn strip_test(layout: Layout, disk: usize, size: usize, bytes: usize) -> Verdict
+    requires { (layout.disks ≤ 255) × (layout.height ≤ 255) }
+    ensures { outcome result ≡ first_of (strip_faults layout disk size bytes) }
 {
-    refuse_if(code.layout.disks <= disk, Refusal::NoSuchDisk)?;
-    stripe_test(code.layout.symbols(), size, bytes)
+    refuse_if(layout.disks <= disk, Refusal::NoSuchDisk)?;
+    stripe_test(layout.symbols(), size, bytes)
 }
 
 // Twin of `strip`: why it shows nothing, or that it shows the strip.
@@ -42,7 +43,7 @@ pub fn strip_verdict(sheet: &[u8], disk: usize, size: usize, stripe: &[u8]) -> V
     ensures answer { outcome result ≡ strip_verdict sheet.now disk size (length stripe.now) }
 {
     let code = read_code(sheet)?;
-    strip_test(&code, disk, size, stripe.len())
+    strip_test(code.layout, disk, size, stripe.len())
 }
 
 // Where the strip of a disk lies in the stripe; a part of no bytes where `strip_verdict` refuses, and only there.
@@ -53,7 +54,7 @@ pub fn strip_place(sheet: &[u8], disk: usize, size: usize, stripe: &[u8]) -> Par
     let Ok(code) = read_code(sheet) else {
         return nowhere();
     };
-    let Ok(()) = strip_test(&code, disk, size, stripe.len()) else {
+    let Ok(()) = strip_test(code.layout, disk, size, stripe.len()) else {
         return nowhere();
     };
     let layout = code.layout;

@@ -27,7 +27,7 @@ fn look_up_test(
 {
     let layout = code.layout;
     let whole_spare = is_length(spare, layout.height_of(disk), size);
-    strip_test(code, disk, size, bytes)?;
+    strip_test(layout, disk, size, bytes)?;
     refuse_if(!whole_spare, Refusal::SpareStripLength)?;
     refuse_if(layout.symbols() <= symbol, Refusal::NoSuchSymbol)
 }

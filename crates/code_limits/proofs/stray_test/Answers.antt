@@ -44,24 +44,24 @@ search-preserved c = (c.loop-bit.invariant.0, λ j l. c.loop-bit.invariant.2 j (
 pub returns-in-Some : goal.returns-in-Some
 returns-in-Some c =
     elim c.search-test.branch [
-      else-search-test w ↦ (let apart : ◌≡◌ {A = Option ℕ} None (Some c.in-Some.place) = sym c.search.invariant.0 ∙ sym w.stray-is ∙ c.in-Some.is in absurd cc)
-    | then-search-test+then-loop-bit-test+then-has w ↦
-      (let sets = c.args.rows.now in
-       let rows = numerals sets in
-       let data_symbols = c.args.data_symbols in
-       let row = c.search.row in
-       let bit = w.loop-bit.bit in
-       let alike : Some (row * 64 + bit) ≡ Some c.in-Some.place = sym w.stray-is ∙ c.in-Some.is in
-       let place : row * 64 + bit ≡ c.in-Some.place = cc in
-       let below : bit < 64 = omega (arith, w.loop-bit-test.true) in
-       let here : stray_at rows data_symbols (row * 64 + bit) ≡ true =
-       stray_at_high rows data_symbols row bit below w.loop-bit.invariant.1 ∙ sym (w.has.ensures ∙ ap (λ (set : ℕ). has set bit) (get_or_numerals sets row)) ∙ w.if-has.true in
-       rw (sym place) (stray_told rows (length sets) data_symbols (row * 64 + bit) (omega (arith, w.search-test.true, below)) here (λ j l. w.loop-bit.invariant.2 j l (omega (arith, l, below)))))
+      | else-search-test w ↦ (let apart : ◌≡◌ {A = Option ℕ} None (Some c.in-Some.place) = sym c.search.invariant.0 ∙ sym w.stray-is ∙ c.in-Some.is in absurd cc)
+      | then-search-test+then-loop-bit-test+then-has w ↦
+          (let sets = c.args.rows.now in
+          let rows = numerals sets in
+          let data_symbols = c.args.data_symbols in
+          let row = c.search.row in
+          let bit = w.loop-bit.bit in
+          let alike : Some (row * 64 + bit) ≡ Some c.in-Some.place = sym w.stray-is ∙ c.in-Some.is in
+          let place : row * 64 + bit ≡ c.in-Some.place = cc in
+          let below : bit < 64 = omega (arith, w.loop-bit-test.true) in
+          let here : stray_at rows data_symbols (row * 64 + bit) ≡ true =
+          stray_at_high rows data_symbols row bit below w.loop-bit.invariant.1 ∙ sym (w.has.ensures ∙ ap (λ (set : ℕ). has set bit) (get_or_numerals sets row)) ∙ w.if-has.true in
+          rw (sym place) (stray_told rows (length sets) data_symbols (row * 64 + bit) (omega (arith, w.search-test.true, below)) here (λ j l. w.loop-bit.invariant.2 j l (omega (arith, l, below)))))
     ]
 
 pub returns-in-None : goal.returns-in-None
 returns-in-None c =
     elim c.search-test.branch [
-      else-search-test w ↦ none_stray_told (numerals c.args.rows.now) (length c.args.rows.now) c.args.data_symbols (λ j l. c.search.invariant.1 j (omega (arith, l, w.search-test.false)))
-    | then-search-test+then-loop-bit-test+then-has w ↦ (let apart : ◌≡◌ {A = Option ℕ} (Some (c.search.row * 64 + w.loop-bit.bit)) None = sym w.stray-is ∙ c.in-None.is in absurd cc)
+      | else-search-test w ↦ none_stray_told (numerals c.args.rows.now) (length c.args.rows.now) c.args.data_symbols (λ j l. c.search.invariant.1 j (omega (arith, l, w.search-test.false)))
+      | then-search-test+then-loop-bit-test+then-has w ↦ (let apart : ◌≡◌ {A = Option ℕ} (Some (c.search.row * 64 + w.loop-bit.bit)) None = sym w.stray-is ∙ c.in-None.is in absurd cc)
     ]

@@ -2,7 +2,7 @@
 use Rattle.std.proofs.Common.{◌≡◌, ℕ, ◌*◌, length, sym, ap, ◌∙◌, arith}
 use Rattle.bits.specs.Numerals.{numerals}
 use Rattle.bits.proofs.NumeralLaws.{length_numerals, get_or_numerals}
-use Rattle.encoding.proofs.EncodingLaws.{written_none, written_more, written_all}
+use Rattle.encoding.proofs.EncodingLaws.{written_none, written_more, written_whole}
 use Rattle.encoding.proofs.encode_symbols.Goals as goal
 
 pub loop-s-init : goal.loop-s-init
@@ -21,5 +21,5 @@ returns c =
     let all : c.loop-s.s ≡ length args.rows.now = omega arith in
     let whole : length args.stripe.now ≡ c.loop-s.s * args.size = c.requires.stripe_whole ∙ sym (ap (λ (n : ℕ). n * args.size) all) in
     c.loop-s.invariant
-    ∙ written_all args.size args.data_symbols (numerals args.rows.now) args.contents.now args.stripe.now c.requires.data_whole c.loop-s.s
+    ∙ written_whole args.size args.data_symbols (numerals args.rows.now) args.contents.now args.stripe.now c.requires.data_whole c.loop-s.s
     (omega (arith, length_numerals args.rows.now)) (rw whole (omega arith))
