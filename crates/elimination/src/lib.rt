@@ -7,23 +7,11 @@ ghost use Rattle.bits.specs.Numerals.{set_width, numeral, numerals};
 ghost use Rattle.gf2.specs.InnerElimination.{pivot_for, reduce_patterns, remaining, pivots, units};
 ghost use Rattle.elimination.specs.InnerPatterns.{first_nonempty};
 
-use arrayvec::ArrayVec;
 use bits::{BitSet, SET_WIDTH, common, empty, is_empty, odd_overlap, sum, with};
+use fixed_lists::FixedList;
 
 // A list of at most as many sets as a set can have elements: patterns, pivots, subsets, equations.
-pub type SetList = ArrayVec<BitSet, SET_WIDTH>;
-
-// A list of these sets.
-pub fn listed(sets: &[BitSet]) -> SetList
-    requires { length sets.now ≤ set_width }
-    ensures { result.items ≡ sets.now }
-{
-    let mut list = SetList::new();
-    for set in sets {
-        list.push(*set);
-    }
-    list
-}
+pub type SetList = FixedList<BitSet, SET_WIDTH>;
 
 // The patterns that elimination starts from.
 pub fn unit_patterns(width: usize) -> SetList

@@ -16,9 +16,9 @@ ghost use Rattle.gf2.specs.Plans.{PlacesBelow};
 ghost use Rattle.fewest.specs.InnerFewest.{Avoids, Fewest, Images, IsColumn, KeepsImages, Meets, MeetsEach, MeetsEachSum, NeededBesides, OfWidth, Searched, StillNeeded, either, size};
 
 use bits::{
-    BitSet, SET_WIDTH, below, common, count, empty, has, is_empty, lowest_from, sum, union, with,
+    BitSet, SET_WIDTH, below, common, count, empty, empty_sets, has, is_empty, lowest_from, sum,
+    union, with,
 };
-use elimination::listed;
 use solve::{SetList, nonempty_sets, surviving_rows};
 
 // The symbols whose rows have a data symbol's bit: on these the unit pattern of that bit shows.
@@ -190,8 +190,9 @@ fn first_images(rows: &[BitSet], data_symbols: usize, known: BitSet, wanted: Bit
     ensures { Images (survivors (either (numeral known) (numeral wanted)) (numerals rows.now)) (has 0) (length result.items) (numerals result.items) }
 {
     let involved = surviving_rows(rows, union(known, wanted));
-    let mut columns = columns(involved.as_slice(), data_symbols);
-    let images = columns.as_mut_slice();
+    let columns = columns(involved.as_slice(), data_symbols);
+    let mut array = columns.array();
+    let images = &mut array[..data_symbols];
     spread(images, known);
     nonempty_sets(images)
 }
@@ -244,8 +245,9 @@ fn search(
         return Searching { best, branchings };
     }
     let left = sum(allowed, with(empty(), element));
-    let mut copies = listed(images);
-    let reduced = copies.as_mut_slice();
+    let mut copies = empty_sets();
+    let reduced = &mut copies[..images.len()];
+    reduced.copy_from_slice(images);
     reduce(reduced, image, element);
     let more = with(taken, element);
     let one = search(reduced, wanted, more, left, best, branchings - 1);
@@ -268,9 +270,11 @@ pub fn fewest(
     let array = below(rows.len());
     let survivors = common(known, array);
     let targets = common(wanted, array);
-    let mut images = first_images(rows, data_symbols, survivors, targets);
+    let images = first_images(rows, data_symbols, survivors, targets);
+    let count = images.len();
+    let mut array = images.array();
     let found = search(
-        images.as_mut_slice(),
+        &mut array[..count],
         targets,
         empty(),
         survivors,

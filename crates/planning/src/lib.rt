@@ -19,7 +19,7 @@ use plan_sheets::write_plan;
 use solve::{SetList, eliminate_known};
 
 // What planning gives: a plan sheet's length and read count, or the patterns that tell what is gone where there is no plan.
-#[derive(Drop)]
+#[derive(Clone, Copy)]
 pub enum Planned {
     Plan { length: usize, reads: usize },
     Patterns(SetList),
@@ -32,12 +32,7 @@ pub fn subsets_from(code: &Code, wanted: BitSet, known: BitSet) -> Result<SetLis
     ensures lost { IfErr result (λ lost. PatternsLost (linear code.now) (has (numeral known)) (has (numeral wanted)) (numerals lost.items)) }
 {
     let rows = code.matrix();
-    let mut eliminated = eliminate_known(
-        code.rows,
-        code.layout.symbols(),
-        code.data_symbols,
-        known,
-    );
+    let eliminated = eliminate_known(code.rows, code.layout.symbols(), code.data_symbols, known);
     if !is_empty(eliminated.odd_pattern(rows, wanted)) {
         return Err(eliminated.lost_patterns(rows, wanted));
     }

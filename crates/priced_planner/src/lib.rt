@@ -28,7 +28,7 @@ use work::work_out_priced;
 
 // What is answered: a plan sheet's length and read count with the sum of its charges, settled or stopped; or the patterns that tell what is gone where there
 // is no plan.
-#[derive(Drop)]
+#[derive(Clone, Copy)]
 pub enum Priced {
     Plan {
         length: usize,

@@ -5,14 +5,14 @@ ghost use Rattle.bits.specs.Lists.{symbols_in};
 ghost use Rattle.bits.specs.Numerals.{set_width, numeral};
 ghost use Rattle.priced_planner.specs.PricedPlanner.{is_lost};
 
-use arrayvec::ArrayVec;
 use bits::{BitSet, SET_WIDTH, has, with};
+use fixed_lists::FixedList;
 use lists::set_of;
 use prices::DiskStates;
 use prices::states::is_away;
 
 // The numbers of a set, as bytes.
-pub type ByteList = ArrayVec<u8, SET_WIDTH>;
+pub type ByteList = FixedList<u8, SET_WIDTH>;
 
 // The elements of a set that are below a bound, rising.
 pub fn entries_of(set: BitSet, bound: usize) -> ByteList

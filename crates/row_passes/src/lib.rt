@@ -16,7 +16,7 @@ use part_passes::pass;
 use passes::Sources;
 
 // The sources of a pass, and the data symbol that the next pass begins with, where one is left.
-#[derive(Drop)]
+#[derive(Clone, Copy)]
 struct Gathered {
     sources: Sources,
     next: Option<usize>,

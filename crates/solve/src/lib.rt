@@ -44,7 +44,7 @@ pub fn surviving_rows(rows: &[BitSet], known: BitSet) -> SetList
 }
 
 // Elimination over the known symbols: their rows, the pivot of each, and the patterns that remain.
-#[derive(Drop)]
+#[derive(Clone, Copy)]
 pub struct Elimination {
     pub surviving: SetList,
     pub pivots: SetList,
@@ -68,12 +68,14 @@ pub fn eliminate_known(
     ensures remaining { numerals result.remaining.items ≡ remaining (units data_symbols) (survivors (has (numeral known)) (take symbols (numerals rows))) }
 {
     let surviving = surviving_rows(&rows[..symbols], known);
-    let mut remaining = unit_patterns(data_symbols);
-    let pivots = eliminate(remaining.as_mut_slice(), surviving.as_slice());
+    let units = unit_patterns(data_symbols);
+    let count = units.len();
+    let mut patterns = units.array();
+    let pivots = eliminate(&mut patterns[..count], surviving.as_slice());
     Elimination {
         surviving,
         pivots,
-        remaining,
+        remaining: SetList::begun(patterns, count),
     }
 }
 
@@ -119,12 +121,14 @@ impl Elimination {
     }
 
     // Elimination run on over the wanted rows: of the patterns that remain those that a wanted row takes as its pivot.
-    pub fn lost_patterns(&mut self, rows: &[BitSet], wanted: BitSet) -> SetList
+    pub fn lost_patterns(&self, rows: &[BitSet], wanted: BitSet) -> SetList
         requires { length rows.now ≤ set_width }
-        ensures { numerals result.items ≡ lost_patterns (numerals self.old.remaining.items) (survivors (has (numeral wanted)) (numerals rows.now)) }
+        ensures { numerals result.items ≡ lost_patterns (numerals self.now.remaining.items) (survivors (has (numeral wanted)) (numerals rows.now)) }
     {
         let wanted_rows = surviving_rows(rows, wanted);
-        let lost = eliminate(self.remaining.as_mut_slice(), wanted_rows.as_slice());
+        let count = self.remaining.len();
+        let mut patterns = self.remaining.array();
+        let lost = eliminate(&mut patterns[..count], wanted_rows.as_slice());
         nonempty_sets(lost.as_slice())
     }
 }

@@ -2,7 +2,7 @@
 -- answer yes exactly if some valid stripe agrees on every surviving byte. A no names the lowest byte column within a symbol for which none exists. Nothing
 -- is written. Prove the equations enough and right for any code, once. Which such list is given is free. Refusals: code sheet, 7, 24, 31, 32."
 use Rattle.std.specs.Prelude.{◌≡◌, List, ◌++◌, ◌↔◌, ℕ, length, Result, Ok, Err}
-use Rattle.arrayvec.specs.ArrayVec.{ArrayVec}
+use Rattle.fixed_lists.specs.FixedLists.{FixedList}
 use Rattle.bits.specs.Numerals.{numerals}
 use Rattle.bits.specs.declared.BitSet.{BitSet}
 use Rattle.code_sheets.specs.CodeReading.{reading}
@@ -41,7 +41,7 @@ test_verdict code_sheet disks size stripe_bytes = and_then (reading code_sheet).
 -- The list of equations
 
 -- What the result stands for
-abbrev pub as_listed : Result (ArrayVec BitSet) Refusal → Answer (List ℕ)
+abbrev pub as_listed : Result (FixedList BitSet) Refusal → Answer (List ℕ)
 as_listed (Ok equations) = Gives (numerals equations.items)
 as_listed (Err refusal) = Refuses (numbered refusal)
 

@@ -35,7 +35,7 @@ pub struct Settling {
 }
 
 // The terms on which symbols are read: the array, the state and the strip of each disk, the equations among the survivors, and the wanted symbols.
-#[derive(Drop)]
+#[derive(Clone, Copy)]
 struct ReadingTerms {
     layout: Layout,
     states: DiskStates,

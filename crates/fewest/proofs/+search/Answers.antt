@@ -91,7 +91,7 @@ search-one-requires t c =
     let left = taken_out _ _ c.empty.ensures c.with.ensures c.sum-left.ensures in (
       omega (arith, fewer_left (numerals spread.new.images) _ at lowest.ensures c.common.ensures image in-width left, c.decreases),
       (
-        omega (arith, c.as_mut_slice-reduced.ensures.fits),
+        omega (arith, ap length c.copy_from_slice.ensures.after, c.spread.auto.images, c.reduce.auto.images, pre.0),
         pre.1,
         subst (λ (x : ℕ). x < 2 ^ set_width) (sym c.with-more.ensures) (with_below set_width (numeral args.taken) lowest.result pre.2 in-width),
         left_in_width _ _ left pre.3 in-width,
@@ -144,7 +144,7 @@ returns-clause-searched t c rows given =
     let in-width = c.if-element-ge-SET_WIDTH.false in
     let left = taken_out _ _ c.empty.ensures c.with.ensures c.sum-left.ensures in
     let total = length c.spread.new.images in
-    let copied : c.as_mut_slice-reduced.result.now ≡ spread.new.images = c.as_mut_slice-reduced.ensures.value ∙ c.listed-copies.ensures in
+    let copied : c.copy_from_slice.new.self ≡ spread.new.images = c.copy_from_slice.ensures.after in
     let copies = ap length copied in
     searched_step (numerals spread.new.images) (numeral args.allowed) at _ _ lowest.result lowest.ensures c.common.ensures image
     rows (numeral args.wanted) (numeral args.taken) (numeral args.best) total (numerals c.reduce.new.images) (same_count _ total (omega arith) (spread.ensures rows _ given)) (omega arith) in-width

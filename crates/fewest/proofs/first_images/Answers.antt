@@ -4,7 +4,7 @@ use mathlib.Core.Bool.{Bool}
 use mathlib.Core.List.{List}
 use Prim.Native.Nat.{ℕ, ◌<◌}
 use native.Mathlib.Omega.{arith}
-use lib.ListN.{length, get_or}
+use lib.ListN.{length, get_or, take}
 use Rattle.bits.specs.BitSets.{has}
 use Rattle.bits.specs.Numerals.{numeral, numerals}
 use Rattle.bits.specs.declared.BitSet.{BitSet}
@@ -31,11 +31,12 @@ returns c =
     let first : Images (survivors involved rows) (has 0) width (numerals columns.result.items) =
     columns_images (survivors involved rows) width (numerals columns.result.items) (survivors_below width involved rows c.requires.2)
     (subst (λ (cut_rows : List ℕ). (i : ℕ) → i < width → IsColumn cut_rows i (get_or (numerals columns.result.items) i 0)) cut columns.ensures.columns) in
-    let all : length c.as_mut_slice-images.result.now ≡ width = ap length c.as_mut_slice-images.ensures.value ∙ columns.ensures.all in
+    let begins : take width c.array-array.result ≡ columns.result.items = ap (λ (n : ℕ). take n c.array-array.result) (sym columns.ensures.all) ∙ c.array-array.ensures.front in
+    let all : length (take width c.array-array.result) ≡ width = ap length begins ∙ columns.ensures.all in
     let spread : Images (survivors involved rows) (has 0) (length (numerals apart)) (numerals apart) =
     subst (λ (count : ℕ). Images (survivors involved rows) (has 0) count (numerals apart)) (omega (arith, length_numerals apart, all))
     (c.spread.ensures (survivors involved rows) (has 0)
-    (subst (λ (l : List BitSet). Images (survivors involved rows) (has 0) (length l) (numerals l)) (sym c.as_mut_slice-images.ensures.value)
+    (subst (λ (l : List BitSet). Images (survivors involved rows) (has 0) (length l) (numerals l)) (sym begins)
     (subst (λ (count : ℕ). Images (survivors involved rows) (has 0) count (numerals columns.result.items)) (sym columns.ensures.all) first))) in
     let gathered = c.nonempty_sets in
     subst (λ (count : ℕ). Images (survivors involved rows) (has 0) count (numerals gathered.result.items)) (length_numerals gathered.result.items)
