@@ -15,7 +15,7 @@ use Rattle.bits.specs.Numerals.{set_width, padded}
 use Rattle.bits.proofs.Booleans.{bool_cases}
 use Rattle.bits.proofs.OverlapLaws.{overlap_zero_left, overlap_zero_right, even_if_not_odd}
 use Rattle.bits.proofs.SetLaws.{has_unit, has_by_overlap}
-use Rattle.gf2.specs.InnerElimination.{pivot_for, reduce_pattern, reduce_patterns, remaining, nonempty, EvenOn, units_from, units}
+use Rattle.gf2.specs.InnerElimination.{pivot_for, reduce_pattern, reduce_patterns, remaining, pivots, nonempty, EvenOn, units_from, units}
 use Rattle.gf2.specs.InnerSubsetPlans.{survivors}
 
 -- ------------------------------------------------------------------
@@ -173,6 +173,23 @@ remaining_after_units_from (suc count) first before even known others =
 
     rows : List ℕ
     rows = survivors (λ s. known (suc s)) (later ++ others)
+
+-- Patterns that differ in zeros alone have the same pivot for a row ..
+pub pivot_for_alike_but_zeros : (patterns others : List ℕ) (row : ℕ) → nonempty patterns ≡ nonempty others → pivot_for patterns row ≡ pivot_for others row
+pivot_for_alike_but_zeros patterns others row same = sym (pivot_for_nonempty patterns row) ∙ ap (λ (l : List ℕ). pivot_for l row) same ∙ pivot_for_nonempty others row
+
+-- .. and the same pivots for rows
+pub pivots_alike_but_zeros : (patterns others rows : List ℕ) → nonempty patterns ≡ nonempty others → pivots patterns rows ≡ pivots others rows
+unfolding pivots
+pivots_alike_but_zeros patterns others [] same = refl
+pivots_alike_but_zeros patterns others (row ∷ rows) same =
+    ap₂ ◌∷◌ (pivot_for_alike_but_zeros patterns others row same)
+    (pivots_alike_but_zeros (reduce_patterns patterns row) (reduce_patterns others row) rows
+    (sym (reduce_patterns_nonempty patterns row) ∙ ap (λ (l : List ℕ). nonempty (reduce_patterns l row)) same ∙ reduce_patterns_nonempty others row))
+
+-- Zeros behind the patterns are no pivots
+pub pivots_padded : (patterns rows : List ℕ) → pivots (padded patterns) rows ≡ pivots patterns rows
+pivots_padded patterns rows = pivots_alike_but_zeros (padded patterns) patterns rows (nonempty_padded patterns)
 
 -- Zeros behind the patterns change none of those that are left
 pub remaining_padded : (patterns rows : List ℕ) → nonempty (remaining (padded patterns) rows) ≡ nonempty (remaining patterns rows)

@@ -1,3 +1,4 @@
 mod ByteLaws
 mod ColumnLaws
 pub mod CallLaws
+pub mod UnitLaws
