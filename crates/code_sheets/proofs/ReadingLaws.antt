@@ -9,7 +9,7 @@ use lib.ListN.{length, get_or, get_or-eq_default, take, drop}
 use native.Mathlib.Decide.{dec_lt}
 use Rattle.std.proofs.lemmas.List.{get_or-take, length-take-le}
 use lib.Seq.{get_or-drop}
-use borrow.Author.Tests.{ltb-false, lt-ltb, le-ltb, not-false, eqb-true}
+use borrow.Author.Tests.{ltb-false, not-false, eqb-true}
 use Rattle.codes.specs.Codes.{LinearCode, no_code, rows_of, WithinLimits}
 use Rattle.codes.specs.Layouts.{symbols_of}
 use Rattle.codes.proofs.RowLaws.{length_rows_of, get_or_rows_of, get_or_rows_of_behind, rows_of_below}

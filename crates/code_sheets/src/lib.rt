@@ -1,7 +1,8 @@
 // The code sheet, read and written: refusals 1 to 6 in their order, and the code by value.
 #![tactic(auto)]
 
-ghost use Rattle.std.specs.Prelude.{◌≡◌, ◌<◌};
+ghost use Rattle.std.specs.Prelude.{◌≡◌, ◌<◌, IfOk};
+ghost use Rattle.codes.specs.Codes.{WithinLimits, linear};
 ghost use Rattle.refusals.specs.Orders.{outcome, first_of};
 ghost use Rattle.code_sheets.specs.CodeReading.{head_faults, reading, as_read};
 
@@ -41,6 +42,7 @@ fn head_test(
 // Reads a code sheet, of any bytes and any length: its code, or the first refusal in document 01's order.
 pub fn read_code(sheet: &[u8]) -> Result<Code, Refusal>
     ensures answer { as_read result ≡ reading sheet.now }
+    ensures limits { IfOk result (λ code. WithinLimits (linear code)) }
 {
     let count = byte_at(sheet, 0);
     let edition = byte_at(sheet, 1);

@@ -34,7 +34,9 @@ pub fn write_list(list: &[u8], at: usize, buffer: &mut [u8])
     requires { (length list.now < 256) × (at < 65536) × (at + 1 + length list.now ≤ length buffer.old) }
     ensures { buffer.new ≡ from_place at (counted list.now) buffer.old }
 {
-    let first = at + 1;
     buffer[at] = list.len() as u8;
-    buffer[first..first + list.len()].copy_from_slice(list);
+    // By a loop: `copy_from_slice` calls memmove, which nothing else of the library for C needs.
+    for (i, entry) in list.iter().enumerate() {
+        buffer[at + 1 + i] = *entry;
+    }
 }

@@ -1,16 +1,15 @@
 -- `code_sheets::read_code` meets its contract: the outcomes of the head and of the rows are those of the order of faults. Assumes nothing.
-use Rattle.std.proofs.Common.{◌≡◌, ℕ, ◌≤◌, ◌<◌, List, [], ◌∷◌, length, get_or, take, sym, ap, ◌∙◌, subst, arith}
+use Rattle.std.proofs.Common.{◌≡◌, ℕ, List, [], ◌∷◌, length, get_or, take, sym, ap, ◌∙◌, subst, arith}
 use Rattle.std.proofs.lemmas.List.{length-take}
 use Rattle.std.proofs.lemmas.Result.{err_from_is_err_and}
-use Rattle.bits.specs.Numerals.{set_width, numerals}
+use Rattle.bits.specs.Numerals.{numerals}
 use Rattle.bits.proofs.NumeralLaws.{numerals_take, length_numerals}
 use Rattle.codes.specs.Codes.{LinearCode, WithinLimits}
-use Rattle.codes.proofs.RowLaws.{length_rows_of}
 use Rattle.code_limits.specs.CodeLimits.{stray_fault}
-use Rattle.code_sheets.specs.CodeSheets.{row_in, code_in}
+use Rattle.code_sheets.specs.CodeSheets.{code_in}
 use Rattle.code_sheets.specs.CodeReading.{CodeRead, reading}
 use Rattle.code_sheets.proofs.ReadingLaws.{head_of, head_as_read, reading_head_refused, reading_stray, reading_fine, code_within_limits, sheet_within, stray_as_read, code_as_read}
-use Rattle.refusals.specs.Orders.{Outcome, Fine, Refused, first_of, outcome}
+use Rattle.refusals.specs.Orders.{Fine, first_of, outcome}
 use Rattle.code_sheets.proofs.read_code.Goals as goal
 use Rattle.code_sheets.proofs.read_code.Goals.{After-head_test, In_ok-head_test, After-stray_test, In_ok-stray_test}
 
@@ -53,7 +52,7 @@ pub returns-in_err-head_test : goal.returns-in_err-head_test
 returns-in_err-head_test c =
     let p = err_from_is_err_and c.from_residual.result c.from_residual.ensures.1 in
     let head = head_read (goal.at.returns-in_err-head_test c).After-head_test in
-    rw (p.1, p.2) (record { answer = sym (reading_head_refused c.args.sheet.now _ (sym head ∙ ap outcome c.in_err-head_test.was)) })
+    rw (p.1, p.2) (record { answer = sym (reading_head_refused c.args.sheet.now _ (sym head ∙ ap outcome c.in_err-head_test.was)); limits = tt })
 
 pub read_rows-rows-requires : goal.read_rows-rows-requires
 read_rows-rows-requires c =
@@ -74,14 +73,17 @@ returns-in_err-stray_test c =
     let p = err_from_is_err_and c.from_residual-in_err-stray_test.result c.from_residual-in_err-stray_test.ensures.1 in
     let at = goal.at.returns-in_err-stray_test c in
     rw (p.1, p.2)
-    (record { answer = sym (reading_stray c.args.sheet.now _ (head_fine at.In_ok-head_test) (ap outcome (sym c.in_err-stray_test.was) ∙ rows_read at.After-stray_test)) })
+    (record { answer = sym (reading_stray c.args.sheet.now _ (head_fine at.In_ok-head_test) (ap outcome (sym c.in_err-stray_test.was) ∙ rows_read at.After-stray_test)); limits = tt })
+
+-- And it is within the limits
+within : (c : In_ok-stray_test) → WithinLimits (record { layout = record { disks = c.byte_at-disks.result; height = c.byte_at-height.result }; data_symbols = c.byte_at-data_symbols.result; rows = numerals c.read_rows-rows.result })
+within c =
+    let sheet = c.args.sheet.now in
+    let fine : (reading sheet).verdict ≡ Fine = ap (λ (r : CodeRead). r.verdict) (sym (code_read c)) in
+    subst (λ (r : CodeRead). WithinLimits r.code) (sym (code_read c)) (code_within_limits sheet (λ i. omega (arith, c.type_inv.sheet i)) fine)
 
 pub invariant_of-result : goal.invariant_of-result
-invariant_of-result c =
-    let sheet = c.args.sheet.now in
-    let e = code_read (goal.at.invariant_of-result c).In_ok-stray_test in
-    let fine : (reading sheet).verdict ≡ Fine = ap (λ (r : CodeRead). r.verdict) (sym e) in
-    record { within = subst (λ (r : CodeRead). WithinLimits r.code) (sym e) (code_within_limits sheet (λ i. omega (arith, c.type_inv.sheet i)) fine) }
+invariant_of-result c = record { within = within (goal.at.invariant_of-result c).In_ok-stray_test }
 
 pub returns : goal.returns
-returns c = record { answer = code_read (goal.at.returns c).In_ok-stray_test }
+returns c = let read = (goal.at.returns c).In_ok-stray_test in record { answer = code_read read; limits = within read }

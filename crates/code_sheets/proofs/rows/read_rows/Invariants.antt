@@ -1,5 +1,5 @@
 -- The invariant of `code_sheets::rows::read_rows`: the rows stored so far are those of the sheet.
-use Prim.Native.Nat.{◌-◌, ◌≤◌}
+use Prim.Native.Nat.{◌≤◌}
 use mathlib.Core.Path.{◌≡◌}
 use Rattle.bits.specs.Lists.{tabulate}
 use Rattle.bits.specs.Numerals.{numerals}

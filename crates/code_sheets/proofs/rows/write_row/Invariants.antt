@@ -1,6 +1,6 @@
 -- The invariant of `code_sheets::rows::write_row`: the bytes passed are stored.
 use mathlib.Core.Path.{◌≡◌}
-use Prim.Native.Nat.{◌-◌, ◌≤◌}
+use Prim.Native.Nat.{◌≤◌}
 use lib.ListN.{length}
 use lib.Seq.{paste}
 use Rattle.bits.specs.Numerals.{numeral}

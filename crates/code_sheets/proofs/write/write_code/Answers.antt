@@ -1,7 +1,7 @@
 -- `code_sheets::write::write_code` meets its contract: the head, then the rows behind it. Assumes nothing.
-use Rattle.std.proofs.Common.{◌≡◌, length, sym, ap, ◌∙◌, arith}
+use Rattle.std.proofs.Common.{arith}
 use Rattle.codes.proofs.LimitLaws.{length_matrix}
-use Rattle.codes.specs.Codes.{linear, symbols, matrix}
+use Rattle.codes.specs.Codes.{linear}
 use Rattle.code_sheets.proofs.SheetLaws.{length_code_sheet}
 use Rattle.code_sheets.proofs.WriteLaws.{sheet_stored}
 use Rattle.code_sheets.proofs.write.write_code.Goals as goal
