@@ -22,7 +22,8 @@
 //                                                            its other list the wanted symbols one by one
 //   patterns COUNT PATTERN .. same good                      whether the buffer is as it was, and each pattern's stripe as it has to be
 //
-// Where one of these is not so, its word begins with "not-".
+// Where one of these is not so, its word begins with "not-". What can't be printed is passed over: the rest of its line and the records behind
+// it are still tried.
 #![tactic(auto)]
 
 ghost use Rattle.std.specs.Prelude.{◌≡◌, ◌≤◌, length};
@@ -33,16 +34,21 @@ use planner::Planned;
 use priced_planner::Priced;
 use prices::DiskStates;
 use records::{
-    Said, contains, fill_part, filled, front_of, is_zero, number_at, product, read_full, rest_at,
-    same_behind, spread,
+    contains, fill_part, filled, front_of, is_zero, number_at, print_bytes, print_number,
+    print_refusal, print_word, product, read_full, rest_at, same_behind, spread,
 };
 use refusals::Refusal;
 use sheets::{byte_at, two_bytes_at};
-use std::io;
 use std::io::Read;
 
 // The most bytes that a record, a buffer or a stripe has.
 const ROOM: usize = 4096;
+
+fn room() -> [u8; ROOM]
+    ensures { 4096 ≡ length result }
+{
+    [0; ROOM]
+}
 
 // What a record asks for: a plan for one disk, without a list of wanted symbols or with one, or for a set of disks: any, one with the fewest
 // reads, or one at prices.
@@ -290,8 +296,8 @@ impl<'a> Question<'a> {
         let length = product(byte_at(self.sheet, 5), size);
         let data = filled(seed);
         let contents = front_of(&data, product(byte_at(self.sheet, 4), size));
-        let mut stripe_room = [0; ROOM];
-        let mut whole_room = [0; ROOM];
+        let mut stripe_room = room();
+        let mut whole_room = room();
         let stripe = &mut stripe_room[..length];
         let whole = &mut whole_room[..length];
         if !encodes(self.sheet, size, contents, stripe) {
@@ -309,8 +315,8 @@ impl<'a> Question<'a> {
     fn is_good(&self, pattern: u64) -> bool {
         let bits = spread(pattern);
         let data_symbols = byte_at(self.sheet, 4);
-        let mut room = [0; ROOM];
-        let stripe = &mut room[..byte_at(self.sheet, 5)];
+        let mut stripe_room = room();
+        let stripe = &mut stripe_room[..byte_at(self.sheet, 5)];
         encodes(self.sheet, 1, front_of(&bits, data_symbols), stripe)
             && is_zero(rest_at(&bits, data_symbols))
             && is_zero_where(stripe, |symbol| !self.is_lost(symbol))
@@ -335,40 +341,19 @@ impl<'a> Question<'a> {
         plan: &[u8],
         reads: usize,
         behind_same: bool,
-    ) -> io::Result<()> {
+    ) {
         let accepted = accepts(self.sheet, lost, plan, reads) && self.is_as_asked(plan);
-        let accepted = Said {
-            holds: accepted,
-            word: "accepted",
-        };
-        let behind_same = Said {
-            holds: behind_same,
-            word: "behind-same",
-        };
-        let restored = Said {
-            holds: self.restores(lost, plan),
-            word: "restored",
-        };
-        print!(rt; "{accepted}{behind_same}{restored}")?;
+        print_word(rt, accepted, "accepted");
+        print_word(rt, behind_same, "behind-same");
+        print_word(rt, self.restores(lost, plan), "restored");
         if byte_at(self.record, 0) == 1 {
-            print!(rt; " ")?;
-            for byte in plan {
-                print!(rt; "{byte:02x}")?;
-            }
+            print_bytes(rt, plan);
         }
-        Ok(())
     }
 
-    fn print_plan(
-        &self,
-        rt: &impl Print,
-        plan: &[u8],
-        reads: usize,
-        behind_same: bool,
-    ) -> io::Result<()> {
-        let length = plan.len();
-        print!(rt; "plan {length} {reads}")?;
-        self.judge_plan(rt, self.disks, plan, reads, behind_same)
+    fn print_plan(&self, rt: &impl Print, plan: &[u8], reads: usize, behind_same: bool) {
+        print_counts(rt, "plan", plan.len(), reads);
+        self.judge_plan(rt, self.disks, plan, reads, behind_same);
     }
 
     // Prints a plan at prices. What it is to be judged by are the lost disks that it lists.
@@ -380,56 +365,46 @@ impl<'a> Question<'a> {
         sum: f64,
         settled: bool,
         behind_same: bool,
-    ) -> io::Result<()> {
-        let length = plan.len();
-        let bits = bits_of(sum);
-        let word = if settled { "settled" } else { "stopped" };
-        print!(rt; "priced {length} {reads} {bits} {word}")?;
-        self.judge_plan(rt, list_at(plan, 6), plan, reads, behind_same)
+    ) {
+        print_counts(rt, "priced", plan.len(), reads);
+        print_number(rt, bits_of(sum));
+        let _ = if settled {
+            print!(rt; " settled")
+        } else {
+            print!(rt; " stopped")
+        };
+        self.judge_plan(rt, list_at(plan, 6), plan, reads, behind_same);
     }
 
-    fn print_patterns(
-        &self,
-        rt: &impl Print,
-        patterns: &[BitSet],
-        unchanged: bool,
-    ) -> io::Result<()> {
-        let count = patterns.len();
-        print!(rt; "patterns {count}")?;
+    fn print_patterns(&self, rt: &impl Print, patterns: &[BitSet], unchanged: bool) {
+        let _ = print!(rt; "patterns");
+        print_number(rt, patterns.len() as u64);
         for pattern in patterns {
-            let number = low_word(*pattern);
-            print!(rt; " {number}")?;
+            print_number(rt, low_word(*pattern));
         }
-        let same = Said {
-            holds: unchanged,
-            word: "same",
-        };
-        let good = Said {
-            holds: self.are_good(patterns),
-            word: "good",
-        };
-        print!(rt; "{same}{good}")
+        print_word(rt, unchanged, "same");
+        print_word(rt, self.are_good(patterns), "good");
     }
 
     // Prints what planning answered, and what became of its buffer, which was as the copy is.
     fn print_answer(
         &self,
         rt: &impl Print,
-        answer: Result<Planned, Refusal>,
+        answer: &Result<Planned, Refusal>,
         buffer: &[u8],
         copy: &[u8],
-    ) -> io::Result<()> {
+    ) {
         match answer {
             Ok(Planned::Plan { length, reads }) => self.print_plan(
                 rt,
-                front_of(buffer, length),
-                reads,
-                same_behind(buffer, copy, length),
+                front_of(buffer, *length),
+                *reads,
+                same_behind(buffer, copy, *length),
             ),
             Ok(Planned::Patterns(patterns)) => {
                 self.print_patterns(rt, patterns.as_slice(), is_same(buffer, copy))
             }
-            Err(refusal) => print_refused(rt, refusal, is_same(buffer, copy)),
+            Err(refusal) => print_refused(rt, *refusal, is_same(buffer, copy)),
         }
     }
 
@@ -437,10 +412,10 @@ impl<'a> Question<'a> {
     fn print_priced_answer(
         &self,
         rt: &impl Print,
-        answer: Result<Priced, Refusal>,
+        answer: &Result<Priced, Refusal>,
         buffer: &[u8],
         copy: &[u8],
-    ) -> io::Result<()> {
+    ) {
         match answer {
             Ok(
                 Priced::Plan {
@@ -451,16 +426,16 @@ impl<'a> Question<'a> {
                 },
             ) => self.print_priced(
                 rt,
-                front_of(buffer, length),
-                reads,
-                sum,
-                settled,
-                same_behind(buffer, copy, length),
+                front_of(buffer, *length),
+                *reads,
+                *sum,
+                *settled,
+                same_behind(buffer, copy, *length),
             ),
             Ok(Priced::Patterns(patterns)) => {
                 self.print_patterns(rt, patterns.as_slice(), is_same(buffer, copy))
             }
-            Err(refusal) => print_refused(rt, refusal, is_same(buffer, copy)),
+            Err(refusal) => print_refused(rt, *refusal, is_same(buffer, copy)),
         }
     }
 
@@ -477,15 +452,15 @@ impl<'a> Question<'a> {
     }
 
     // Asks with a buffer of the record's length, and prints the answer.
-    fn ask(&self, rt: &impl Print, disk: usize) -> io::Result<()> {
+    fn ask(&self, rt: &impl Print, disk: usize) {
         let length = two_bytes_at(self.record, 2);
         if length > ROOM {
-            return Ok(());
+            return;
         }
         let seed = byte_at(self.record, 1);
-        let mut room = filled(seed);
+        let mut buffer_room = filled(seed);
         let copy = filled(seed);
-        let buffer = &mut room[..length];
+        let buffer = &mut buffer_room[..length];
         if self.kind == Kind::Priced {
             let answer = priced_planner::plan_priced(
                 self.sheet,
@@ -494,71 +469,72 @@ impl<'a> Question<'a> {
                 &self.disk_states(),
                 buffer,
             );
-            return self.print_priced_answer(rt, answer, buffer, front_of(&copy, length));
+            self.print_priced_answer(rt, &answer, buffer, front_of(&copy, length));
+            return;
         }
         let answer = self.plan(disk, buffer);
-        self.print_answer(rt, answer, buffer, front_of(&copy, length))
+        self.print_answer(rt, &answer, buffer, front_of(&copy, length));
     }
 }
 
-fn print_refused(rt: &impl Print, refusal: Refusal, unchanged: bool) -> io::Result<()> {
-    print!(rt; "{refusal}")?;
-    let same = Said {
-        holds: unchanged,
-        word: "same",
-    };
-    print!(rt; "{same}")
+fn print_counts(rt: &impl Print, name: &str, length: usize, reads: usize) {
+    let _ = print!(rt; "{name}");
+    print_number(rt, length as u64);
+    print_number(rt, reads as u64);
+}
+
+fn print_refused(rt: &impl Print, refusal: Refusal, unchanged: bool) {
+    print_refusal(rt, refusal);
+    print_word(rt, unchanged, "same");
 }
 
 // Asks about each disk that a record names, one after the other. What is answered for a disk is judged by the set of it alone; one that a byte
 // can't hold is refused, so that nothing is judged by its entry.
-fn ask_about_each(rt: &impl Print, record: &[u8]) -> io::Result<()> {
+fn ask_about_each(rt: &impl Print, record: &[u8]) {
     let mut disk = number_at(record, 5);
     for _ in 0..byte_at(record, 4) {
         let disks = [(disk % 256) as u8];
-        question_about(record, &disks).ask(rt, disk)?;
-        println!(rt; "")?;
+        question_about(record, &disks).ask(rt, disk);
+        let _ = println!(rt; "");
         if disk > 64 {
             break;
         }
         disk += 1;
     }
-    Ok(())
 }
 
-fn answer(rt: &impl Print, record: &[u8]) -> io::Result<()> {
+fn answer(rt: &impl Print, record: &[u8]) {
     match Kind::from(byte_at(record, 13)) {
         Kind::Disk | Kind::DiskListed => ask_about_each(rt, record),
         Kind::Set | Kind::Fewest | Kind::Priced => {
-            question_about(record, asked_in(record)).ask(rt, 0)?;
-            println!(rt; "")
+            question_about(record, asked_in(record)).ask(rt, 0);
+            let _ = println!(rt; "");
         }
     }
 }
 
 // Answers the next record, or says that there is none.
-fn answer_next(rt: &impl Print, input: &mut impl Read) -> io::Result<bool> {
+fn answer_next(rt: &impl Print, input: &mut impl Read) -> bool {
     let mut head = [0u8; 2];
     if read_full(input, &mut head) < 2 {
-        return Ok(false);
+        return false;
     }
     let length = two_bytes_at(&head, 0);
     if length > ROOM {
-        return Ok(false);
+        return false;
     }
-    let mut record = [0u8; ROOM];
+    let mut record = room();
     if read_full(input, &mut record[..length]) < length {
-        return Ok(false);
+        return false;
     }
-    answer(rt, &record[..length])?;
-    Ok(true)
+    answer(rt, &record[..length]);
+    true
 }
 
 fn main(rt: HostRuntime) {
     let mut input = rt.stdin();
     for _ in 0..u64::MAX {
-        // What can't be printed ends the program as the end of its input does.
-        if !answer_next(&rt, &mut input).unwrap_or(false) {
+        if !answer_next(&rt, &mut input) {
             break;
         }
     }

@@ -9,6 +9,7 @@ ghost use Rattle.records.specs.Records.{number_at, front, small_product, seeded,
 ghost use Rattle.sheets.specs.Buffers.{at_front};
 
 use lists::is_same;
+use refusals::Refusal;
 use sheets::two_bytes_at;
 use std::fmt;
 use std::io::Read;
@@ -147,6 +148,39 @@ impl<'a> fmt::Display for Said<'a> {
         let not = if self.holds { "" } else { "not-" };
         let word = self.word;
         write!(f, " {not}{word}")
+    }
+}
+
+// Prints a number, after a blank.
+//
+// Here and below each blank, number and word is printed by itself: what can't be printed is passed over, and nothing besides it.
+pub fn print_number(rt: &impl Print, number: u64) {
+    let _ = print!(rt; " ");
+    let _ = print!(rt; "{number}");
+}
+
+// Prints a refusal: its number and its place.
+pub fn print_refusal(rt: &impl Print, refusal: Refusal) {
+    let _ = print!(rt; "refused");
+    print_number(rt, refusal.number());
+    let _ = print!(rt; " at");
+    print_number(rt, refusal.place() as u64);
+}
+
+// Prints a word, after a blank, with "not-" in front of it where it does not hold.
+pub fn print_word(rt: &impl Print, holds: bool, word: &str) {
+    let _ = print!(rt; " ");
+    if !holds {
+        let _ = print!(rt; "not-");
+    }
+    let _ = print!(rt; "{word}");
+}
+
+// Prints bytes in hex, after a blank.
+pub fn print_bytes(rt: &impl Print, bytes: &[u8]) {
+    let _ = print!(rt; " ");
+    for byte in bytes {
+        let _ = print!(rt; "{byte:02x}");
     }
 }
 

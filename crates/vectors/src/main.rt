@@ -16,6 +16,8 @@
 //   call 8, test survivors: number of asked disks, L, stripe length, stripe seed, data length (0: no data is encoded first), data seed,
 //     start and end of a part that is ruined, its seed (below 256: that byte throughout), the same of a second part, code sheet length;
 //     the asked disks, the code sheet
+//
+// What can't be printed is passed over: the rest of its line and the records behind it are still tried.
 #![tactic(auto)]
 
 ghost use Rattle.std.specs.Prelude.{◌≡◌, length};
@@ -24,11 +26,12 @@ use bits::low_word;
 use code_sheets::read_code;
 use codes::Code;
 use families::Family;
-use records::{digest, fill, front_of, number_at, put_over, read_full, rest_at};
+use records::{
+    digest, fill, front_of, number_at, print_number, print_refusal, put_over, read_full, rest_at,
+};
 use refusals::{Refusal, Verdict};
 use sheets::{byte_at, two_bytes_at};
 use soundness::Tested;
-use std::io;
 use std::io::Read;
 
 // The most bytes that a record has.
@@ -37,56 +40,58 @@ const RECORD: usize = 8192;
 // The most bytes that a long input has.
 const ROOM: usize = 262144;
 
-fn print_verdict(rt: &impl Print, verdict: Verdict) -> io::Result<()> {
+fn print_verdict(rt: &impl Print, verdict: Verdict) {
     match verdict {
-        Ok(()) => print!(rt; "fine"),
-        Err(refusal) => print!(rt; "{refusal}"),
+        Ok(()) => {
+            let _ = print!(rt; "fine");
+        }
+        Err(refusal) => print_refusal(rt, refusal),
     }
 }
 
 // The digest of a whole buffer, as the end of a line.
-fn print_digest(rt: &impl Print, bytes: &[u8]) -> io::Result<()> {
-    let digest = digest(bytes);
-    println!(rt; " digest {digest}")
+fn print_digest(rt: &impl Print, bytes: &[u8]) {
+    let _ = print!(rt; " digest");
+    print_number(rt, digest(bytes) as u64);
+    let _ = println!(rt; "");
 }
 
 // The bytes of a short buffer, in hex.
-fn print_short(rt: &impl Print, bytes: &[u8]) -> io::Result<()> {
+fn print_short(rt: &impl Print, bytes: &[u8]) {
     if bytes.len() > 16 {
-        return Ok(());
+        return;
     }
-    print!(rt; " bytes")?;
+    let _ = print!(rt; " bytes");
     for byte in bytes {
-        print!(rt; " {byte:02x}")?;
+        let _ = print!(rt; " ");
+        let _ = print!(rt; "{byte:02x}");
     }
-    Ok(())
 }
 
 // What a call showed: how many bytes, and which.
-fn print_part(rt: &impl Print, part: &[u8]) -> io::Result<()> {
-    let length = part.len();
-    print!(rt; " part {length}")?;
-    print_digest(rt, part)
+fn print_part(rt: &impl Print, part: &[u8]) {
+    let _ = print!(rt; " part");
+    print_number(rt, part.len() as u64);
+    print_digest(rt, part);
 }
 
-fn print_code(rt: &impl Print, code: &Code) -> io::Result<()> {
-    let disks = code.layout.disks;
-    let height = code.layout.height;
-    let data_symbols = code.data_symbols;
-    print!(rt; "code {disks} {height} {data_symbols} rows")?;
+fn print_code(rt: &impl Print, code: &Code) {
+    let _ = print!(rt; "code");
+    print_number(rt, code.layout.disks as u64);
+    print_number(rt, code.layout.height as u64);
+    print_number(rt, code.data_symbols as u64);
+    let _ = print!(rt; " rows");
     for row in code.matrix() {
-        let number = low_word(*row);
-        print!(rt; " {number}")?;
+        print_number(rt, low_word(*row));
     }
-    Ok(())
 }
 
-fn read(rt: &impl Print, record: &[u8]) -> io::Result<()> {
+fn read(rt: &impl Print, record: &[u8]) {
     match read_code(rest_at(record, 1)) {
-        Ok(code) => print_code(rt, &code)?,
-        Err(refusal) => print!(rt; "{refusal}")?,
+        Ok(code) => print_code(rt, &code),
+        Err(refusal) => print_refusal(rt, refusal),
     }
-    println!(rt; "")
+    let _ = println!(rt; "");
 }
 
 fn family_of(which: usize, first: usize, second: usize) -> Family {
@@ -104,7 +109,7 @@ fn family_of(which: usize, first: usize, second: usize) -> Family {
     }
 }
 
-fn write_family(rt: &impl Print, record: &[u8], buffer: &mut [u8]) -> io::Result<()> {
+fn write_family(rt: &impl Print, record: &[u8], buffer: &mut [u8]) {
     let family = family_of(
         number_at(record, 1),
         number_at(record, 9),
@@ -112,39 +117,37 @@ fn write_family(rt: &impl Print, record: &[u8], buffer: &mut [u8]) -> io::Result
     );
     fill(buffer, number_at(record, 33));
     match families::write_family(family, buffer) {
-        Ok(length) => print!(rt; "sheet {length}")?,
-        Err(refusal) => print!(rt; "{refusal}")?,
+        Ok(length) => {
+            let _ = print!(rt; "sheet");
+            print_number(rt, length as u64);
+        }
+        Err(refusal) => print_refusal(rt, refusal),
     }
-    print_digest(rt, buffer)
+    print_digest(rt, buffer);
 }
 
-fn encode(
-    rt: &impl Print,
-    record: &[u8],
-    contents: &mut [u8],
-    stripe: &mut [u8],
-) -> io::Result<()> {
+fn encode(rt: &impl Print, record: &[u8], contents: &mut [u8], stripe: &mut [u8]) {
     let rest = rest_at(record, 49);
     let sheet = front_of(rest, number_at(record, 41));
     fill(contents, number_at(record, 17));
     put_over(contents, rest_at(rest, sheet.len()));
     fill(stripe, number_at(record, 33));
     let verdict = encoding::encode(sheet, number_at(record, 1), contents, stripe);
-    print_verdict(rt, verdict)?;
-    print_short(rt, stripe)?;
-    print_digest(rt, stripe)
+    print_verdict(rt, verdict);
+    print_short(rt, stripe);
+    print_digest(rt, stripe);
 }
 
-fn show_strip(rt: &impl Print, record: &[u8], stripe: &mut [u8]) -> io::Result<()> {
+fn show_strip(rt: &impl Print, record: &[u8], stripe: &mut [u8]) {
     let disk = number_at(record, 1);
     let size = number_at(record, 9);
     let sheet = rest_at(record, 33);
     fill(stripe, number_at(record, 25));
-    print_verdict(rt, views::strip_verdict(sheet, disk, size, stripe))?;
-    print_part(rt, views::strip(sheet, disk, size, stripe))
+    print_verdict(rt, views::strip_verdict(sheet, disk, size, stripe));
+    print_part(rt, views::strip(sheet, disk, size, stripe));
 }
 
-fn look_up(rt: &impl Print, record: &[u8], stripe: &mut [u8], spare: &mut [u8]) -> io::Result<()> {
+fn look_up(rt: &impl Print, record: &[u8], stripe: &mut [u8], spare: &mut [u8]) {
     let disk = number_at(record, 1);
     let size = number_at(record, 9);
     let symbol = number_at(record, 49);
@@ -154,30 +157,39 @@ fn look_up(rt: &impl Print, record: &[u8], stripe: &mut [u8], spare: &mut [u8]) 
     print_verdict(
         rt,
         views::look_up_verdict(sheet, disk, size, stripe, spare, symbol),
-    )?;
-    print_part(rt, views::look_up(sheet, disk, size, stripe, spare, symbol))
+    );
+    print_part(rt, views::look_up(sheet, disk, size, stripe, spare, symbol));
 }
 
-fn check(rt: &impl Print, record: &[u8]) -> io::Result<()> {
+fn check(rt: &impl Print, record: &[u8]) {
     let rest = rest_at(record, 17);
     let disks = front_of(rest, number_at(record, 1));
     let sheets = rest_at(rest, disks.len());
     let sheet = front_of(sheets, number_at(record, 9));
     let plan = rest_at(sheets, sheet.len());
     match checker::check(sheet, disks, plan) {
-        Ok(reads) => println!(rt; "accepted reads {reads}"),
-        Err(refusal) => println!(rt; "{refusal}"),
+        Ok(reads) => {
+            let _ = print!(rt; "accepted reads");
+            print_number(rt, reads as u64);
+        }
+        Err(refusal) => print_refusal(rt, refusal),
     }
+    let _ = println!(rt; "");
 }
 
 // The desk's text as one line: each newline is shown as a bar.
-fn desk(rt: &impl Print, record: &[u8]) -> io::Result<()> {
-    let text = desk_answers::desk_text(rest_at(record, 1));
-    for letter in text.as_str().chars() {
-        let shown = if letter == '\n' { '|' } else { letter };
-        print!(rt; "{shown}")?;
+fn print_on_one_line(rt: &impl Print, text: &[u8]) {
+    for letter in text {
+        let shown = if *letter == b'\n' { b'|' } else { *letter };
+        let _ = rt.write_all(&[shown]);
     }
-    println!(rt; "")
+    let _ = println!(rt; "");
+}
+
+fn desk(rt: &impl Print, record: &[u8]) {
+    let mut out = [0u8; 160];
+    let length = desk_answers::write_lines(rest_at(record, 1), &mut out);
+    print_on_one_line(rt, front_of(&out, length));
 }
 
 // Ruins a part of a stripe, where there is such a part: with one byte throughout, for a seed below 256, or from the seed.
@@ -206,12 +218,7 @@ fn make_stripe(record: &[u8], sheet: &[u8], size: usize, contents: &mut [u8], st
     );
 }
 
-fn rebuild(
-    rt: &impl Print,
-    record: &[u8],
-    stripe: &mut [u8],
-    contents: &mut [u8],
-) -> io::Result<()> {
+fn rebuild(rt: &impl Print, record: &[u8], stripe: &mut [u8], contents: &mut [u8]) {
     let size = number_at(record, 9);
     let rest = rest_at(record, 81);
     let disks = front_of(rest, number_at(record, 1));
@@ -219,24 +226,25 @@ fn rebuild(
     let sheet = front_of(sheets, number_at(record, 73));
     let plan = rest_at(sheets, sheet.len());
     make_stripe(record, sheet, size, contents, stripe);
-    print_verdict(rt, rebuild::rebuild(sheet, disks, plan, size, stripe))?;
-    print_digest(rt, stripe)
+    print_verdict(rt, rebuild::rebuild(sheet, disks, plan, size, stripe));
+    print_digest(rt, stripe);
 }
 
-fn print_tested(rt: &impl Print, tested: Result<Tested, Refusal>) -> io::Result<()> {
+fn print_tested(rt: &impl Print, tested: Result<Tested, Refusal>) {
     match tested {
-        Ok(Tested::Sound) => println!(rt; "sound"),
-        Ok(Tested::Unsound { column }) => println!(rt; "unsound {column}"),
-        Err(refusal) => println!(rt; "{refusal}"),
+        Ok(Tested::Sound) => {
+            let _ = print!(rt; "sound");
+        }
+        Ok(Tested::Unsound { column }) => {
+            let _ = print!(rt; "unsound");
+            print_number(rt, column as u64);
+        }
+        Err(refusal) => print_refusal(rt, refusal),
     }
+    let _ = println!(rt; "");
 }
 
-fn test_survivors(
-    rt: &impl Print,
-    record: &[u8],
-    stripe: &mut [u8],
-    contents: &mut [u8],
-) -> io::Result<()> {
+fn test_survivors(rt: &impl Print, record: &[u8], stripe: &mut [u8], contents: &mut [u8]) {
     let size = number_at(record, 9);
     let rest = rest_at(record, 105);
     let disks = front_of(rest, number_at(record, 1));
@@ -248,26 +256,31 @@ fn test_survivors(
         number_at(record, 81),
         number_at(record, 89),
     );
-    print_tested(rt, soundness::test_survivors(sheet, disks, size, stripe))
+    print_tested(rt, soundness::test_survivors(sheet, disks, size, stripe));
 }
 
-// Makes a call with two long inputs of these lengths; no record asks for more than there is room for.
-fn with_rooms<F: FnOnce(&mut [u8], &mut [u8]) -> io::Result<()>>(
-    length: usize,
-    second_length: usize,
-    call: F,
-) -> io::Result<()>
+// The place of one long input.
+fn room() -> [u8; ROOM]
+    ensures { 262144 ≡ length result }
+{
+    [0; ROOM]
+}
+
+// Makes a call with two long inputs of these lengths; no record asks for more than there is room for. It stays a function of its own, so that
+// the calls without long inputs don't need the stack for them.
+#[inline(never)]
+fn with_rooms<F: FnOnce(&mut [u8], &mut [u8])>(length: usize, second_length: usize, call: F)
     requires { F.IsAlwaysCallable call }
 {
     if length > ROOM || second_length > ROOM {
-        return Ok(());
+        return;
     }
-    let mut first = [0; ROOM];
-    let mut second = [0; ROOM];
-    call(&mut first[..length], &mut second[..second_length])
+    let mut first = room();
+    let mut second = room();
+    call(&mut first[..length], &mut second[..second_length]);
 }
 
-fn answer(rt: &impl Print, record: &[u8]) -> io::Result<()> {
+fn answer(rt: &impl Print, record: &[u8]) {
     match byte_at(record, 0) {
         0 => read(rt, record),
         1 => with_rooms(number_at(record, 25), 0, |buffer, _| {
@@ -298,31 +311,37 @@ fn answer(rt: &impl Print, record: &[u8]) -> io::Result<()> {
             number_at(record, 33),
             |stripe, contents| test_survivors(rt, record, stripe, contents),
         ),
-        _ => Ok(()),
+        _ => {}
     }
 }
 
+// The place of one record.
+fn record_room() -> [u8; RECORD]
+    ensures { 8192 ≡ length result }
+{
+    [0; RECORD]
+}
+
 // Answers the next record, or says that there is none. A record that ends too early is answered as far as it goes.
-fn answer_next(rt: &impl Print, input: &mut impl Read) -> io::Result<bool> {
+fn answer_next(rt: &impl Print, input: &mut impl Read) -> bool {
     let mut head = [0u8; 2];
     if read_full(input, &mut head) < 2 {
-        return Ok(false);
+        return false;
     }
     let length = two_bytes_at(&head, 0);
     if length > RECORD {
-        return Ok(false);
+        return false;
     }
-    let mut record = [0u8; RECORD];
+    let mut record = record_room();
     let got = read_full(input, &mut record[..length]);
-    answer(rt, &record[..got])?;
-    Ok(true)
+    answer(rt, &record[..got]);
+    true
 }
 
 fn main(rt: HostRuntime) {
     let mut input = rt.stdin();
     for _ in 0..u64::MAX {
-        // What can't be printed ends the program as the end of its input does.
-        if !answer_next(&rt, &mut input).unwrap_or(false) {
+        if !answer_next(&rt, &mut input) {
             break;
         }
     }
