@@ -1,16 +1,15 @@
 -- Laws of steps as they are written into a buffer, one after the other, and of the symbols that they read. Assumes nothing.
 use mathlib.Core.Path.{◌≡◌, refl, sym, ap, ap₂, ◌∙◌, subst, fun_ext}
 use mathlib.Core.Bool.{Bool, true, false, cond, ◌||◌, or_assoc, or-false}
-use mathlib.Core.List.{List, [], ◌∷◌, ◌++◌, append-nil, append_assoc}
+use mathlib.Core.List.{List, [], ◌∷◌, ◌++◌, append-nil}
 use Prim.Native.Nat.{ℕ, suc, ◌+◌, ◌-◌, ◌^◌, ◌≤◌, ◌<◌}
 use native.Mathlib.Nat.{sub-zero}
 use native.Mathlib.Numerals.{add-one}
 use native.Mathlib.Omega.{arith}
 use lib.Bits.{bit_or, or_lt}
-use lib.ListN.{length, get_or, take, drop, length-append}
+use lib.ListN.{length, get_or, set, length-append}
 use lib.Pow.{pow_pos}
-use lib.Seq.{drop-drop}
-use borrow.Rule.Slice.PartMut.{put_mid}
+use lib.Seq.{sets-eq}
 use Rattle.bits.specs.BitSets.{has, count}
 use Rattle.bits.specs.Lists.{symbols_in, count_from}
 use Rattle.bits.proofs.Booleans.{bool_cases}
@@ -30,13 +29,15 @@ use Rattle.plan_sheets.proofs.ReadBackLaws.{length_steps_bytes, steps_bytes_appe
 -- ------------------------------------------------------------------
 -- Steps in a buffer
 
--- A part of three bytes that is replaced is three bytes from its place on
-pub bytes_stored : (buffer bytes : List ℕ) (at : ℕ) → length bytes ≡ 3 → put_mid at (at + 3 - at) buffer bytes ≡ from_place at bytes buffer
-bytes_stored buffer bytes at e =
-    let three : at + 3 - at ≡ length bytes = omega (arith, e) in
-    ap (λ (n : ℕ). take at buffer ++ (bytes ++ drop n (drop at buffer))) three
-    ∙ ap (λ (l : List ℕ). take at buffer ++ (bytes ++ l)) (drop-drop (length bytes) at buffer)
-    ∙ sym (append_assoc (take at buffer) bytes (drop (at + length bytes) buffer))
+-- Three stores are the bytes of one step
+pub bytes_stored : (buffer : List ℕ) (number kind target source : ℕ) → steps_length (number + 1) ≤ length buffer
+    → set (set (set buffer (steps_length number) kind) (steps_length number + 1) target) (steps_length number + 2) source
+    ≡ from_place (steps_length number) (kind ∷ target ∷ source ∷ []) buffer
+bytes_stored buffer number kind target source room =
+    let at = steps_length number in
+    let third : at + 2 ≡ suc (suc at) = omega arith in
+    ap₂ (λ (m n : ℕ). set (set (set buffer at kind) m target) n source) (add-one at) third
+    ∙ sets-eq (kind ∷ target ∷ source ∷ []) buffer at (omega arith)
 
 -- Which is the buffer with that step
 pub step_stored : (buffer : List ℕ) (number : ℕ) (step decoded : Step) → step ≡ decoded

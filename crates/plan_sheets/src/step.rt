@@ -57,11 +57,14 @@ pub fn write_step(step: Step, number: usize, buffer: &mut [u8])
     requires { NamesBelow 256 step × StepsFit number (step ∷ []) (length buffer.old) }
     ensures { buffer.new ≡ with_steps buffer.old number (step ∷ []) }
 {
-    let bytes = match step {
-        Step::Clear { target } => [0, target as u8, 0],
-        Step::Copy { target, source } => [1, target as u8, source as u8],
-        Step::Add { target, source } => [2, target as u8, source as u8],
+    let (kind, target, source) = match step {
+        Step::Clear { target } => (0, target as u8, 0),
+        Step::Copy { target, source } => (1, target as u8, source as u8),
+        Step::Add { target, source } => (2, target as u8, source as u8),
     };
+    // Three stores: of an array that is copied, the compiler makes one byte and two, which wait for the bytes just stored.
     let at = 3 * number;
-    buffer[at..at + 3].copy_from_slice(&bytes);
+    buffer[at] = kind;
+    buffer[at + 1] = target;
+    buffer[at + 2] = source;
 }

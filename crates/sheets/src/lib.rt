@@ -35,7 +35,7 @@ pub fn write_list(list: &[u8], at: usize, buffer: &mut [u8])
     ensures { buffer.new ≡ from_place at (counted list.now) buffer.old }
 {
     buffer[at] = list.len() as u8;
-    // By a loop: `copy_from_slice` calls memmove, which nothing else of the library for C needs.
+    // By a loop: of `copy_from_slice` the compiler makes a call of memmove here, a name that the library for C then needs from outside.
     for (i, entry) in list.iter().enumerate() {
         buffer[at + 1 + i] = *entry;
     }

@@ -1,25 +1,16 @@
--- `plan_sheets::step::write_step` meets its contract, by cases on the step. Assumes nothing.
-use Rattle.std.proofs.Common.{◌≡◌, ℕ, ◌+◌, ◌-◌, ◌*◌, List, [], ◌∷◌, length, refl, ap, ◌∙◌}
-use borrow.Rule.Slice.PartMut.{put_mid}
-use Rattle.gf2.specs.declared.Step.{Step}
-use Rattle.plan_sheets.specs.InnerPlanSheets.{step_bytes, with_steps}
+-- `plan_sheets::step::write_step` meets its contract: three stores, by cases on the step. Assumes nothing.
+use Rattle.std.proofs.Common.{◌∙◌, ◌+◌, ◌≤◌, length, arith}
+use Rattle.plan_sheets.specs.PlanSheets.{steps_length}
 use Rattle.plan_sheets.proofs.StepsWrittenLaws.{bytes_stored, step_stored}
 use Rattle.plan_sheets.proofs.step.write_step.Goals as goal
 use Rattle.plan_sheets.proofs.step.write_step.Goals.{in-Clear, in-Copy, in-Add}
 
--- The bytes of a step, put in its place, are the step written
-written : (buffer bytes : List ℕ) (number : ℕ) (step known : Step) → bytes ≡ step_bytes known → length (step_bytes known) ≡ 3 → step ≡ known
-    → put_mid (3 * number) (3 * number + 3 - 3 * number) buffer bytes ≡ with_steps buffer number (step ∷ [])
-written buffer bytes number step known e three is =
-    ap (put_mid (3 * number) (3 * number + 3 - 3 * number) buffer) e ∙ bytes_stored buffer (step_bytes known) (3 * number) three
-    ∙ step_stored buffer number step known is
-
 pub returns : goal.returns
 returns c =
     let a = c.args in
-    let copied = c.copy_from_slice.ensures.after in
+    let room : steps_length (a.number + 1) ≤ length a.buffer.now = omega (arith, c.requires.1.room) in
     elim c.match-step.branch [
-      | in-Clear w ↦ written a.buffer.now _ a.number a.step _ (copied ∙ w.bytes-is) refl w.in-Clear.is
-      | in-Copy w ↦ written a.buffer.now _ a.number a.step _ (copied ∙ w.bytes-is) refl w.in-Copy.is
-      | in-Add w ↦ written a.buffer.now _ a.number a.step _ (copied ∙ w.bytes-is) refl w.in-Add.is
+      | in-Clear w ↦ rw w.kind-is (bytes_stored a.buffer.now a.number _ _ _ room ∙ step_stored a.buffer.now a.number a.step _ w.in-Clear.is)
+      | in-Copy w ↦ rw w.kind-is (bytes_stored a.buffer.now a.number _ _ _ room ∙ step_stored a.buffer.now a.number a.step _ w.in-Copy.is)
+      | in-Add w ↦ rw w.kind-is (bytes_stored a.buffer.now a.number _ _ _ room ∙ step_stored a.buffer.now a.number a.step _ w.in-Add.is)
     ]
