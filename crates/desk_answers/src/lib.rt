@@ -35,7 +35,6 @@ pub fn desk_text(input: &[u8]) -> ArrayString<160>
 }
 
 // Copies a text to the front of a buffer that has room for it, and answers its length; else 0, and the buffer stays.
-#[tactic(auto, unfolding(crate::specs::DeskAnswers::written_length, crate::specs::DeskAnswers::written_over))]
 fn copy_text(text: &[u8], out: &mut [u8]) -> usize
     ensures value { result ≡ written_length text.now out.old }
     ensures out_after { out.new ≡ written_over text.now out.old }
@@ -44,7 +43,9 @@ fn copy_text(text: &[u8], out: &mut [u8]) -> usize
     if out.len() < length {
         return 0;
     }
-    out[..length].copy_from_slice(text);
+    for (i, byte) in text.iter().enumerate() {
+        out[i] = *byte;
+    }
     length
 }
 
