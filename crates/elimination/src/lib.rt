@@ -13,6 +13,18 @@ use fixed_lists::FixedList;
 // A list of at most as many sets as a set can have elements: patterns, pivots, subsets, equations.
 pub type SetList = FixedList<BitSet, SET_WIDTH>;
 
+// A list of these sets.
+pub fn listed(sets: &[BitSet]) -> SetList
+    requires { length sets.now ≤ set_width }
+    ensures { result.items ≡ sets.now }
+{
+    let mut list = SetList::new();
+    for set in sets {
+        list.push(*set);
+    }
+    list
+}
+
 // The patterns that elimination starts from.
 pub fn unit_patterns(width: usize) -> SetList
     requires { width ≤ set_width }
@@ -88,3 +100,6 @@ pub fn eliminate(patterns: &mut [BitSet], rows: &[BitSet]) -> SetList
     }
     pivots
 }
+
+#[cfg(test)]
+mod tests;
