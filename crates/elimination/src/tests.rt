@@ -10,7 +10,11 @@ fn lists_no_sets(rt: HostRuntime) {
 
 #[test]
 fn lists_sets_as_they_stand(rt: HostRuntime) {
-    let sets = [with(empty(), 5), empty(), with(with(empty(), 63), 0)];
+    let sets = [
+        with(empty(), 5),
+        empty(),
+        with(with(empty(), SET_WIDTH - 1), 0),
+    ];
     let list = listed(&sets);
     assert_eq!(rt; list.len(), 3);
     for (set, entry) in sets.iter().zip(list.as_slice()) {
